@@ -1,0 +1,25 @@
+-- The body at the front of a buffer.
+use mathlib.Core.Path.{_≡_, sym, ap, _∙_}
+use mathlib.Core.List.{List, [], _∷_, _++_, append-assoc}
+use Prim.Native.Nat.{ℕ, suc, _+_, _-_, _≤_, _<_}
+use native.Mathlib.Omega.{arith}
+use lib.ListN.{length, set, take, replicate, length-append, length-replicate}
+use Rattle.std.proofs.shelf.Lists.{take-at, set-at}
+use Rattle.stack.specs.Buffers.{zeros, padded}
+
+pub length-padded : (n : ℕ) (xs : List ℕ) → length xs ≤ n → length (padded n xs) ≡ n
+length-padded n xs h = simp (length-append, length-replicate) (omega arith)
+
+pub take-padded : (n k : ℕ) (xs b : List ℕ) → b ≡ padded n xs → length xs ≡ k → take k b ≡ xs
+take-padded n k xs b e h = ap (take k) e ∙ take-at xs (replicate (n - length xs) 0) k h
+
+pub length-zeros : (n : ℕ) (b : List ℕ) → b ≡ zeros n → length b ≡ n
+length-zeros n b e = ap length e ∙ length-replicate n 0
+
+-- a write right behind the body
+pub set-padded : (n m v : ℕ) (xs : List ℕ) → length xs ≡ n → n < m → set (padded m xs) n v ≡ padded m (xs ++ v ∷ [])
+set-padded n m v xs h l =
+    let e : m - length xs ≡ suc (m - (n + 1)) = omega arith in
+    let f : m - length (xs ++ v ∷ []) ≡ m - (n + 1) = simp length-append (omega arith) in
+    ap (λ k. set (xs ++ replicate k 0) n v) e ∙ set-at xs 0 (replicate (m - (n + 1)) 0) v n h
+    ∙ sym (append-assoc xs (v ∷ []) (replicate (m - length (xs ++ v ∷ [])) 0) ∙ ap (λ k. xs ++ v ∷ replicate k 0) f)

@@ -1,0 +1,4 @@
+pub mod Bodies
+pub mod Composing
+pub mod Judging
+pub mod Stacking

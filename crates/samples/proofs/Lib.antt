@@ -1,0 +1,2 @@
+mod Absence
+mod Marks

@@ -1,0 +1,2 @@
+pub mod Erased
+pub mod Marked

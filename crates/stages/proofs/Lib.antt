@@ -1,0 +1,5 @@
+mod Checked
+mod Keyed
+mod Registers
+mod Remainders
+mod Sequences

@@ -1,0 +1,6 @@
+// The coding stages of a link: check byte, randomiser and block interleaver.
+pub mod check;
+pub mod examples;
+pub mod randomiser;
+mod remainder;
+mod sequence;

@@ -4,7 +4,7 @@ use mathlib.Core.List.{List, [], _∷_, _++_, append-assoc}
 use Prim.Native.Nat.{ℕ, suc, _+_, _-_, _≤_, _<_}
 use native.Mathlib.Omega.{arith}
 use lib.ListN.{length, set, take, drop, replicate, length-append, length-replicate}
-use Rattle.std.proofs.shelf.Lists.{drop-at, take-at, set-at}
+use Rattle.std.proofs.shelf.Lists.{drop-at, drop-replicate, take-at, set-at}
 use Rattle.stack.specs.Buffers.{zeros, padded}
 
 pub length-padded : (n : ℕ) (xs : List ℕ) → length xs ≤ n → length (padded n xs) ≡ n
@@ -29,3 +29,7 @@ pub change-padded : (n k : ℕ) (xs ys b : List ℕ) → b ≡ padded n xs → l
 change-padded n k xs ys b e h l =
     let same : n - length xs ≡ n - length ys = omega arith in
     ap (λ x. ys ++ drop k x) e ∙ ap (λ z. ys ++ z) (drop-at xs (replicate (n - length xs) 0) k h) ∙ ap (λ m. ys ++ replicate m 0) same
+
+-- a body written to the front of a buffer of zeros
+pub write-zeros : (n k : ℕ) (ys b : List ℕ) → b ≡ zeros n → length ys ≡ k → ys ++ drop k b ≡ padded n ys
+write-zeros n k ys b e h = ap (λ x. ys ++ drop k x) e ∙ ap (λ z. ys ++ z) (drop-replicate k n 0) ∙ ap (λ m. ys ++ replicate (n - m) 0) (sym h)

@@ -1,5 +1,6 @@
 mod Checked
 mod Keyed
+mod Moved
 mod Registers
 mod Remainders
 mod Sequences

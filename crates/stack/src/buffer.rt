@@ -23,7 +23,7 @@ pub fn load(buffer: &mut [u8], body: &[u8])
     requires { ⌜ length (now body) ≤ length (now buffer) ⌝ }
     ensures { λ _. ⌜ now (buffer .exit) ≡ padded (length (now (buffer .entry))) (now (body .entry)) ⌝ }
 {
-    buffer.fill(0);
+    clear(buffer);
     let n = body.len();
     buffer[0..n].copy_from_slice(body);
 }

@@ -1,0 +1,3 @@
+-- What hexadecimal text means.
+pub mod Digits
+pub mod Parsing

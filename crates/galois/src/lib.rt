@@ -1,0 +1,4 @@
+// Fields of bytes.
+pub mod field;
+pub mod field1;
+pub mod field2;

@@ -1,0 +1,22 @@
+-- The lemmas of this crate.
+pub mod Series
+pub mod Kept
+pub mod Rings
+pub mod Moments
+pub mod Exhausted
+pub mod Bytewise
+pub mod Zeros
+pub mod Distances
+pub mod Places
+pub mod CodeWords
+pub mod Equations
+pub mod Bits
+pub mod Rows
+pub mod Values
+pub mod Generators
+pub mod Division
+pub mod NearWords
+pub mod Passes
+pub mod Corrections
+pub mod Verdicts
+pub mod Turns

@@ -2,4 +2,5 @@
 pub mod Picking
 pub mod Permuting
 pub mod Rows
+pub mod Runs
 pub mod Turning

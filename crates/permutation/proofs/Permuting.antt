@@ -1,12 +1,9 @@
 -- A list rearranged by a permutation of its places, and put back.
 use mathlib.Core.Path.{_≡_, sym, ap, _∙_}
 use mathlib.Core.List.{List}
-use mathlib.Core.Logic.{_≢_, ⊎-elim}
-use Prim.Native.Nat.{ℕ, _+_, _<_}
+use Prim.Native.Nat.{ℕ, _<_}
 use native.Mathlib.Omega.{arith}
-use lib.ListN.{length, getD, set}
-use Rattle.std.proofs.shelf.Lists.{getD-set-same, getD-set-other, getD-read}
-use Rattle.std.proofs.shelf.Tests.{cases-lt}
+use lib.ListN.{length, getD}
 use Rattle.permutation.specs.Arrange.{picked, Arrangement, size, Rearranges, arranged, restored, Placed, Taken, Interleaved, Deinterleaved}
 use Rattle.permutation.proofs.Picking.{length-picked, getD-picked, picked-from-taken, picked-below}
 
@@ -64,41 +61,6 @@ module _ {T : Type 0} (a : Arrangement) (law : Rearranges a) (xs : List T) (many
   deinterleaved-from-taken ys all taken =
       let back : ys ≡ restored a xs = picked-from-taken (a .place) (size a) xs ys place-inside all taken in
       record { after = back; places = taken; undone = ap (arranged a) back ∙ arranged-restored }
-
-  -- one more element moved to its place
-  pub placed-more : (ys : List T) (i : ℕ) (x : T) → length ys ≡ size a → i < size a → x ≡ getD xs i x → Placed (a .place) i xs ys → Placed (a .place) (i + 1) xs (set ys (a .place i) x)
-  placed-more ys i x all low read placed j d k =
-      ⊎-elim
-      (λ l.
-      let apart : a .place j ≢ a .place i =
-      λ same.
-      let clash : j ≡ i = sym (law .source-place j (omega arith)) ∙ ap (a .source) same ∙ law .source-place i low in
-      omega arith
-      in
-      getD-set-other ys (a .place i) (a .place j) x d apart ∙ placed j d l
-      )
-      (λ l.
-      let same : j ≡ i = omega arith in
-      ap (λ p. getD (set ys (a .place i) x) (a .place p) d) same
-      ∙ getD-set-same ys (a .place i) x d (omega (arith, law .place-below i low))
-      ∙ getD-read xs i x (omega arith) read d
-      ∙ ap (λ p. getD xs p d) (sym same)
-      )
-      (cases-lt j i)
-
-  -- one more element taken from its place
-  pub taken-more : (ys : List T) (i : ℕ) (x : T) → length ys ≡ size a → i < size a → x ≡ getD xs (a .place i) x → Taken (a .place) i xs ys → Taken (a .place) (i + 1) xs (set ys i x)
-  taken-more ys i x all low read taken j d k =
-      ⊎-elim
-      (λ l. getD-set-other ys i j x d (omega arith) ∙ taken j d l)
-      (λ l.
-      let same : j ≡ i = omega arith in
-      ap (λ p. getD (set ys i x) p d) same
-      ∙ getD-set-same ys i x d (omega arith)
-      ∙ getD-read xs (a .place i) x (place-inside i low) read d
-      ∙ ap (λ p. getD xs (a .place p) d) (sym same)
-      )
-      (cases-lt j i)
 
 -- small numbers stay small in their places
 pub arranged-below : (a : Arrangement) → Rearranges a → (xs : List ℕ) (b : ℕ) → length xs ≡ size a → ((k : ℕ) → getD xs k 0 < b) → (k : ℕ) → getD (arranged a xs) k 0 < b

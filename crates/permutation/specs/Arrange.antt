@@ -1,8 +1,9 @@
 -- Rearranging a list by a permutation of its places.
 use mathlib.Core.Path.{_≡_}
 use mathlib.Core.List.{List, [], _++_}
-use Prim.Native.Nat.{ℕ, zero, suc, _*_, _<_}
-use lib.ListN.{getD, take, drop}
+use mathlib.Core.Logic.{_≢_}
+use Prim.Native.Nat.{ℕ, zero, suc, _+_, _*_, _<_}
+use lib.ListN.{length, getD, take, drop}
 
 -- the elements of a list at the places f 0, f 1, .. , f (n - 1)
 unfoldable pub picked : {T : Type 0} → (ℕ → ℕ) → ℕ → List T → List T
@@ -46,6 +47,24 @@ Placed {T} f n xs ys = (i : ℕ) (d : T) → i < n → getD ys (f i) d ≡ getD 
 -- the first n elements of ys are those of xs at the places f 0, f 1, .. , f (n - 1)
 abbrev pub Taken : {T : Type 0} → (ℕ → ℕ) → ℕ → List T → List T → Type 0
 Taken {T} f n xs ys = (i : ℕ) (d : T) → i < n → getD ys i d ≡ getD xs (f i) d
+
+-- the first n elements of ys are those of xs at the places f s, f (s + 1), .. , f (s + n - 1)
+abbrev pub TakenRun : {T : Type 0} → (ℕ → ℕ) → ℕ → ℕ → List T → List T → Type 0
+TakenRun {T} f s n xs ys = (k : ℕ) (d : T) → k < n → getD ys k d ≡ getD xs (f (s + k)) d
+
+-- the first n elements of ys are those of xs from element s on
+abbrev pub Run : {T : Type 0} → ℕ → ℕ → List T → List T → Type 0
+Run {T} s n xs ys = (k : ℕ) (d : T) → k < n → getD ys k d ≡ getD xs (s + k) d
+
+-- the first n elements of a run stand at the places f s, f (s + 1), .. , f (s + n - 1), and at any other place zs is ys
+pub record Moved {T : Type 0} (f : ℕ → ℕ) (s n : ℕ) (run ys zs : List T) : Type 0 where
+  pub there : (k : ℕ) (d : T) → k < n → getD zs (f (s + k)) d ≡ getD run k d
+  pub kept : (j : ℕ) (d : T) → ((k : ℕ) → k < n → j ≢ f (s + k)) → getD zs j d ≡ getD ys j d
+
+-- zs is ys with a run moved to its places: after the elements of a list before it, it is one run more of the list
+pub record PlacedRun {T : Type 0} (f : ℕ → ℕ) (s : ℕ) (run ys zs : List T) : Type 0 where
+  pub moved : Moved f s (length run) run ys zs
+  pub placed : (xs : List T) → Run s (length run) xs run → Placed f s xs ys → Placed f (s + length run) xs zs
 
 -- ys is xs with each element moved to its place
 pub record Interleaved {T : Type 0} (a : Arrangement) (xs ys : List T) : Type 0 where

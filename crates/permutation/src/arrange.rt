@@ -1,8 +1,8 @@
 // Moving the elements of a slice to their places in another, and back.
 ghost use mathlib.Core.Path.{_≡_};
-ghost use Prim.Native.Nat.{ℕ, _+_, _*_, _<_};
+ghost use Prim.Native.Nat.{ℕ, _+_, _*_, _<_, _≤_};
 ghost use lib.ListN.{length};
-ghost use Rattle.permutation.specs.Arrange.{Arrangement, size, Rearranges, Placed, Taken, Interleaved, Deinterleaved};
+ghost use Rattle.permutation.specs.Arrange.{Arrangement, size, Rearranges, TakenRun, PlacedRun, Interleaved, Deinterleaved};
 
 // A rule that gives every element of a slice, read as rows of equal length, a place of its own.
 pub trait Arrange {
@@ -26,17 +26,15 @@ pub trait Arrange {
         ensures { λ r. ⌜ r ≡ meaning (now (self .entry)) .place (row * meaning (now (self .entry)) .columns + column) ⌝ };
 }
 
-// Moves the elements of a row to their places, once those of the rows before have moved.
-fn scatter_row<T: Copy, P: Arrange>(rule: &P, row: usize, from: &[T], to: &mut [T])
+// Moves a run of elements of a row, from a column on, to their places.
+pub fn place_run<T: Copy, P: Arrange>(rule: &P, row: usize, column: usize, from: &[T], to: &mut [T])
     requires within { ⌜ row < P·Arrange .meaning (now rule) .rows ⌝ }
-    requires read { ⌜ length (now from) ≡ size (P·Arrange .meaning (now rule)) ⌝ }
+    requires read { ⌜ column + length (now from) ≤ P·Arrange .meaning (now rule) .columns ⌝ }
     requires written { ⌜ length (now to) ≡ size (P·Arrange .meaning (now rule)) ⌝ }
-    requires before { ⌜ Placed (P·Arrange .meaning (now rule) .place) (row * P·Arrange .meaning (now rule) .columns) (now from) (now to) ⌝ }
-    ensures { λ _. ⌜ Placed (P·Arrange .meaning (now (rule .entry)) .place) ((row + 1) * P·Arrange .meaning (now (rule .entry)) .columns) (now (from .entry)) (now (to .exit)) ⌝ }
+    ensures { λ _. ⌜ PlacedRun (P·Arrange .meaning (now (rule .entry)) .place) (row * P·Arrange .meaning (now (rule .entry)) .columns + column) (now (from .entry)) (now (to .entry)) (now (to .exit)) ⌝ }
 {
-    let columns = rule.columns();
-    for column in 0..columns {
-        to[rule.place(row, column)] = from[row * columns + column];
+    for k in 0..from.len() {
+        to[rule.place(row, column + k)] = from[k];
     }
 }
 
@@ -46,22 +44,22 @@ pub fn interleave<T: Copy, P: Arrange>(rule: &P, from: &[T], to: &mut [T])
     requires written { ⌜ length (now to) ≡ size (P·Arrange .meaning (now rule)) ⌝ }
     ensures { λ _. ⌜ Interleaved (P·Arrange .meaning (now (rule .entry))) (now (from .entry)) (now (to .exit)) ⌝ }
 {
+    let columns = rule.columns();
     for row in 0..rule.rows() {
-        scatter_row(rule, row, from, to);
+        let next = &from[row * columns..(row + 1) * columns];
+        place_run(rule, row, 0, next, to);
     }
 }
 
-// Takes the elements of a row back from their places, once those of the rows before are back.
-fn gather_row<T: Copy, P: Arrange>(rule: &P, row: usize, from: &[T], to: &mut [T])
+// Takes a run of elements of a row, from a column on, from their places.
+pub fn take_run<T: Copy, P: Arrange>(rule: &P, row: usize, column: usize, from: &[T], to: &mut [T])
     requires within { ⌜ row < P·Arrange .meaning (now rule) .rows ⌝ }
+    requires written { ⌜ column + length (now to) ≤ P·Arrange .meaning (now rule) .columns ⌝ }
     requires read { ⌜ length (now from) ≡ size (P·Arrange .meaning (now rule)) ⌝ }
-    requires written { ⌜ length (now to) ≡ size (P·Arrange .meaning (now rule)) ⌝ }
-    requires before { ⌜ Taken (P·Arrange .meaning (now rule) .place) (row * P·Arrange .meaning (now rule) .columns) (now from) (now to) ⌝ }
-    ensures { λ _. ⌜ Taken (P·Arrange .meaning (now (rule .entry)) .place) ((row + 1) * P·Arrange .meaning (now (rule .entry)) .columns) (now (from .entry)) (now (to .exit)) ⌝ }
+    ensures { λ _. ⌜ TakenRun (P·Arrange .meaning (now (rule .entry)) .place) (row * P·Arrange .meaning (now (rule .entry)) .columns + column) (length (now (to .exit))) (now (from .entry)) (now (to .exit)) ⌝ }
 {
-    let columns = rule.columns();
-    for column in 0..columns {
-        to[row * columns + column] = from[rule.place(row, column)];
+    for k in 0..to.len() {
+        to[k] = from[rule.place(row, column + k)];
     }
 }
 
@@ -71,7 +69,9 @@ pub fn deinterleave<T: Copy, P: Arrange>(rule: &P, from: &[T], to: &mut [T])
     requires written { ⌜ length (now to) ≡ size (P·Arrange .meaning (now rule)) ⌝ }
     ensures { λ _. ⌜ Deinterleaved (P·Arrange .meaning (now (rule .entry))) (now (from .entry)) (now (to .exit)) ⌝ }
 {
+    let columns = rule.columns();
     for row in 0..rule.rows() {
-        gather_row(rule, row, from, to);
+        let back = &mut to[row * columns..(row + 1) * columns];
+        take_run(rule, row, 0, from, back);
     }
 }

@@ -1,4 +1,4 @@
--- The lemmas on windows, marks and the encoder.
+-- The lemmas on windows, marks, the encoder, and the decoder of least cost.
 pub mod Body
 pub mod Parity
 pub mod Pattern
@@ -6,3 +6,16 @@ pub mod Samples
 pub mod Sending
 pub mod Windows
 pub mod Writing
+pub mod Survivor
+pub mod Tail
+pub mod Leaving
+pub mod Order
+pub mod InTime
+pub mod OneBit
+pub mod Halves
+pub mod Spread
+pub mod Pricing
+pub mod Refine
+pub mod Distinct
+pub mod Backward
+pub mod Example

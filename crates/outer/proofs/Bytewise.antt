@@ -27,6 +27,14 @@ pub bytes-append : (xs ys : List ℕ) → Bytes xs → Bytes ys → Bytes (xs ++
 bytes-append [] ys h k = k
 bytes-append (x ∷ xs) ys h k = bytes-cons x (xs ++ ys) (h 0) (bytes-append xs ys (λ i. h (suc i)) k)
 
+pub bytes-front : (xs ys : List ℕ) → Bytes (xs ++ ys) → Bytes xs
+bytes-front [] ys h = bytes-nil
+bytes-front (x ∷ xs) ys h = bytes-cons x xs (h 0) (bytes-front xs ys (λ i. h (suc i)))
+
+pub bytes-behind : (xs ys : List ℕ) → Bytes (xs ++ ys) → Bytes ys
+bytes-behind [] ys h = h
+bytes-behind (x ∷ xs) ys h = bytes-behind xs ys (λ i. h (suc i))
+
 pub bytes-take : (n : ℕ) (xs : List ℕ) → Bytes xs → Bytes (take n xs)
 bytes-take zero xs h = bytes-nil
 bytes-take (suc n) [] h = bytes-nil

@@ -20,3 +20,8 @@ pub mod Passes
 pub mod Corrections
 pub mod Verdicts
 pub mod Turns
+pub mod Cuts
+pub mod Terms
+pub mod ErrorValues
+pub mod Repairs
+pub mod CodeTheorems

@@ -1,5 +1,5 @@
 -- One turn of a loop for each part of the decoder.
-use mathlib.Core.Path.{_≡_, refl, sym, ap, _∙_}
+use mathlib.Core.Path.{_≡_, refl, sym, ap, ap₂, _∙_}
 use mathlib.Core.Bool.{Bool, not, cond}
 use mathlib.Core.List.{List, [], _∷_, _++_}
 use Prim.Native.Nat.{ℕ, _+_, _<_}
@@ -7,12 +7,12 @@ use native.Mathlib.Nat.{add-assoc, add-comm, zero-add}
 use native.Mathlib.Omega.{arith}
 use lib.Bits.{bitXor}
 use lib.Dec.{eqb}
-use lib.ListN.{length, getD, set, drop}
+use lib.ListN.{length, getD, set, take, drop}
 use Rattle.std.specs.Iters.{counting}
 use Rattle.std.specs.shelf.Lists.{kept-by}
 use Rattle.std.proofs.shelf.Counted.{map-counting-more}
 use Rattle.std.proofs.shelf.Elements.{kept-by-append}
-use Rattle.std.proofs.shelf.Lists.{append-nil, drop-more, map-id}
+use Rattle.std.proofs.shelf.Lists.{append-nil, drop-more, take-more, map-id}
 use Rattle.std.proofs.shelf.Tests.{eq-eqb, ne-eqb}
 use Rattle.galois.specs.Bytes.{ByteField, FieldRule}
 use Rattle.outer.specs.Decoding.{locator, polynomial-at, applied, is-other, others, passed, passes, differences, corrected, errors}
@@ -42,6 +42,23 @@ pub errors-push : (v : ℕ → ℕ) (ps : List ℕ) (p : ℕ) → errors v (ps +
 unfolding errors
 errors-push v [] p = add-comm (cond (eqb (v p) 0) 0 1) 0
 errors-push v (q ∷ qs) p = ap (λ n. cond (eqb (v q) 0) 0 1 + n) (errors-push v qs p) ∙ sym (add-assoc (cond (eqb (v q) 0) 0 1) (errors v qs) (cond (eqb (v p) 0) 0 1))
+
+-- one place more of a list, with its value
+module _ (v : ℕ → ℕ) (w zs : List ℕ) (i p x : ℕ) (inside : i < length zs) (is : getD zs i 0 ≡ p) (e : x ≡ v p) where
+  one-more : take (i + 1) zs ≡ take i zs ++ p ∷ []
+  one-more = take-more zs i 0 inside ∙ ap (λ z. take i zs ++ z ∷ []) is
+
+  pub corrected-more : (ys : List ℕ) → ys ≡ corrected v w (take i zs) → set ys p (bitXor (getD ys p 0) x) ≡ corrected v w (take (i + 1) zs)
+  corrected-more ys known = ap₂ (λ l b. set l p (bitXor (getD l p 0) b)) known e ∙ sym (ap (corrected v w) one-more ∙ corrected-push v w (take i zs) p)
+
+  errors-more : errors v (take (i + 1) zs) ≡ errors v (take i zs) + cond (eqb x 0) 0 1
+  errors-more = ap (errors v) one-more ∙ errors-push v (take i zs) p ∙ ap (λ b. errors v (take i zs) + cond (eqb b 0) 0 1) (sym e)
+
+  pub errors-one-more : (n : ℕ) → ¬ (x ≡ 0) → n ≡ errors v (take i zs) → n + 1 ≡ errors v (take (i + 1) zs)
+  errors-one-more n other known = omega (arith, errors-more, ap (λ b. errors v (take i zs) + cond b 0 1) (ne-eqb x 0 other))
+
+  pub errors-no-more : (n : ℕ) → x ≡ 0 → n ≡ errors v (take i zs) → n ≡ errors v (take (i + 1) zs)
+  errors-no-more n none known = omega (arith, errors-more, ap (λ b. errors v (take i zs) + cond b 0 1) (eq-eqb x 0 none))
 
 module _ (f : ByteField) where
   -- Horner's rule, from the highest coefficient down

@@ -8,3 +8,5 @@ pub mod Verdict
 pub mod Lanes
 pub mod Syndromes
 pub mod Encoder
+pub mod Cutting
+pub mod Correction

@@ -11,7 +11,7 @@ use galois::field::Field;
 use std::simd::prelude::*;
 
 // Where each lane comes from when all move on by one: the next lane, and for the last a zero.
-const NEXT: [usize; 32] = [
+pub const NEXT: [usize; 32] = [
     1,
     2,
     3,

@@ -1,6 +1,7 @@
 // The syndromes of a word, all of them at once.
 ghost use mathlib.Core.Path.{_≡_};
 ghost use Prim.Native.Nat.{ℕ, _+_, _^_, _<_, _≤_};
+ghost use Rattle.outer.specs.ByteLists.{Bytes};
 ghost use Rattle.outer.specs.Lanes.{lane, root, Are};
 ghost use Rattle.outer.specs.Syndromes.{Syndromes};
 use super::lanes::Multiples;
@@ -30,7 +31,8 @@ pub fn root_multiples<F: Field>(field: &F, r: usize) -> Multiples
 
 // The syndromes of a word: lane l has its value at the root of lane l.
 pub fn syndromes(roots: &Multiples, word: &[u8]) -> [u8; 32]
-    ensures { λ s. ⌜ Syndromes (now (roots .entry) .rows) (now (word .entry)) s ⌝ }
+    ensures lanes { λ s. ⌜ Syndromes (now (roots .entry) .rows) (now (word .entry)) s ⌝ }
+    ensures small { λ s. ⌜ Bytes (now (word .entry)) ⌝ ∗ ⌜ Bytes s ⌝ }
 {
     let mut sums = u8x32::splat(0);
     for b in word {

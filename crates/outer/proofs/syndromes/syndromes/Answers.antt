@@ -8,6 +8,7 @@ use Rattle.std.proofs.shelf.Lanes.{getD-zip2, each1-getD}
 use Rattle.std.proofs.shelf.Lists.{take-all}
 use Rattle.outer.specs.Lanes.{lane, root}
 use Rattle.outer.specs.Words.{syndrome}
+use Rattle.outer.proofs.Cuts.{vector-fits}
 use Rattle.outer.proofs.Zeros.{getD-zeros}
 use Rattle.outer.proofs.Values.{syndrome-none, syndrome-more}
 use Rattle.outer.proofs.syndromes.syndromes.Needs as need
@@ -29,5 +30,7 @@ loop-b-again c f r rule are l h =
     ∙ sym (syndrome-more f r l (c .args .word .now) (c .loop-b .b-index) (c .loop-b-test .taken))
 
 pub returns : need.returns
-returns c f r rule are l h =
-    c .loop-b .inv f r rule are l h ∙ ap (λ w. syndrome f r w l) (take-all (c .loop-b .b-index) (c .args .word .now) (c .loop-b-test .left))
+returns c = record {
+  lanes = λ f r rule are l h. c .loop-b .inv f r rule are l h ∙ ap (λ w. syndrome f r w l) (take-all (c .loop-b .b-index) (c .args .word .now) (c .loop-b-test .left));
+  small = (λ k. c .typed .word k .fits, vector-fits (c .loop-b .sums) (c .loop-b .kept .sums) .small);
+}

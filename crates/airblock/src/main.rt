@@ -2,12 +2,16 @@
 mod coder;
 mod loopback;
 
+use coder::Coder;
+use coder::ERRORS;
 use coder::coder_for;
 use coder::words_for;
+use galois::field1::Field1Field;
 use hex::HexErrorDebug;
 use hex::HexErrorDisplay;
 use hex::HexErrorError;
 use loopback::loopback;
+use reed_solomon::stage::ReedSolomonStage;
 use stack::bare::BareCarrier;
 use stack::buffer::load;
 use stack::carrier::Carrier;
@@ -52,19 +56,46 @@ fn print_outcome(
     Ok(())
 }
 
-// Puts a body on the air, reads it back clean, and reads it back with one bit flipped.
+// Flips every bit of so many neighbouring symbols, from the third on.
+fn damage(block: &mut [u8], count: usize) {
+    for symbol in block.iter_mut().skip(2).take(count) {
+        *symbol = !*symbol;
+    }
+}
+
+// Reads a block with so many neighbouring symbols damaged, and prints what comes of it.
+fn read_damaged(
+    rt: &LibcRuntime,
+    coder: &Coder,
+    sent: &[u8],
+    damaged: usize,
+    length: usize,
+) -> Result<(), AnyError> {
+    let heap = rt.alloc();
+    let need = coder.byte_need();
+    let mut first = vec![in heap; 0u8; need]?;
+    let mut second = vec![in heap; 0u8; need]?;
+    let mut steps = vec![in heap; 0u64; coder.step_need()]?;
+    let mut block = sent.to_vec(heap)?;
+    damage(&mut block, damaged);
+    let outcome = coder.get(&mut first, &mut second, &mut steps, &block);
+    let label = format!(heap, "burst of {damaged}")?;
+    print_outcome(rt, label.as_str(), outcome, &first, length)
+}
+
+// Puts a body on the air, reads it back clean, and reads it back with the longest burst that is always borne and with one symbol more.
 fn run(rt: &LibcRuntime) -> Result<(), AnyError> {
     let heap = rt.alloc();
     let body = read_body(rt)?;
     let length = body.len();
     let Some(coder) = coder_for(length) else {
-        return Err("a body has from 1 to 98303 bytes".into());
+        return Err("the body, with its check byte, does not divide into at most 16 words of at most 249 bytes".into());
     };
     let air = coder.air_length();
-    let words = words_for(air);
+    let words = words_for(length.saturating_add(1));
     println!(
         rt,
-        "check byte, randomiser, interleaver of {words} words, bare carrier: {length} bytes to {air}"
+        "check byte, randomiser, Reed-Solomon of {words} words with {ERRORS} errors each, interleaver, bare carrier: {length} bytes to {air}"
     )?;
 
     let need = coder.byte_need().max(length);
@@ -77,12 +108,9 @@ fn run(rt: &LibcRuntime) -> Result<(), AnyError> {
     let sent = hex::show(heap, &block)?;
     println!(rt, "block {sent}")?;
     print_outcome(rt, "clean", clean, &first, length)?;
-
-    if let Some(symbol) = block.get_mut(air / 2) {
-        *symbol ^= 1;
-    }
-    let flipped = coder.get(&mut first, &mut second, &mut steps, &block);
-    print_outcome(rt, "flipped", flipped, &first, length)
+    let borne = words.saturating_mul(ERRORS);
+    read_damaged(rt, &coder, &block, borne, length)?;
+    read_damaged(rt, &coder, &block, borne.saturating_add(1), length)
 }
 
 fn main(rt: LibcRuntime) -> Result<(), AnyError> {

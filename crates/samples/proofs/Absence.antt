@@ -39,7 +39,7 @@ values-push (r ∷ rs) v = ap (λ l. valueOr r 0 ∷ l) (values-push rs v)
 
 kept : (b : Bool) (n : ℕ) (x : List ℕ) → length x ≡ n → Receives (erasing n) (cond b (Ok (record { body = x; counts = record { symbols = 0; bytes = 0 } })) (Err (record { depth = 0; fault = Other 1 0 })))
 kept true n x h = record { body = h; symbols = omega arith; bytes = omega arith }
-kept false n x h = record { number = inr (omega arith); depth = omega arith }
+kept false n x h = record { number = inr (inr (omega arith)); depth = omega arith }
 
 pub erasing-rule : (n : ℕ) → 1 ≤ n → n ≤ 98304 → CarrierRule (erasing n)
 erasing-rule n low high = record {

@@ -22,7 +22,7 @@ decode-front n y =
 
 kept : (b : Bool) (n : ℕ) (x : List ℕ) → length x ≡ n → Decodes (marking n) (cond b (Ok (record { body = x; count = 0 })) (Err (Other 0 0)))
 kept true n x h = record { body = h; count = omega arith }
-kept false n x h = inr (omega arith)
+kept false n x h = inr (inr (omega arith))
 
 pub marking-rule : (n : ℕ) → 1 ≤ n → n < 98304 → StageRule (marking n)
 marking-rule n low high = record {

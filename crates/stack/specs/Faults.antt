@@ -3,7 +3,7 @@ use mathlib.Core.Path.{_≡_}
 use mathlib.Core.Logic.{_⊎_}
 use Prim.Native.Nat.{ℕ, _+_, _≤_}
 use Rattle.stack.specs.declared.fault.Fault.{Fault}
-use Rattle.stack.specs.declared.fault.Fault.the-variants.{CheckByte, Other}
+use Rattle.stack.specs.declared.fault.Fault.the-variants.{NoCodeWord, CheckByte, Other}
 use Rattle.stack.specs.declared.fault.CarrierFault.{CarrierFault}
 use Rattle.stack.specs.declared.fault.Misfit.{Misfit}
 use Rattle.stack.specs.declared.fault.Misfit.the-variants.{Buffers, AirLength}
@@ -13,17 +13,19 @@ use Rattle.stack.specs.declared.fault.Report.{Report}
 
 -- the number of a part's refusal
 abbrev pub fault-number : Fault → ℕ
+fault-number (NoCodeWord word) = 5
 fault-number CheckByte = 6
 fault-number (Other code place) = 100 + code
 
 -- its place
 abbrev pub fault-place : Fault → ℕ
+fault-place (NoCodeWord word) = word
 fault-place CheckByte = 0
 fault-place (Other code place) = place
 
 -- the numbers by which a part may refuse: one given to a make of this repository, or 100 and up
 abbrev pub Late : ℕ → Type 0
-Late n = (n ≡ 6) ⊎ (100 ≤ n)
+Late n = (n ≡ 5) ⊎ ((n ≡ 6) ⊎ (100 ≤ n))
 
 -- what does not fit is told at the top: depth 0, place 0
 abbrev pub misfit-report : Misfit → Report

@@ -5,6 +5,8 @@ ghost use Rattle.stack.specs.Faults.{Late, fault-number, fault-place, misfit-r
 // Why one part of a stack, a stage or the carrier at its foot, refuses what it was given to read.
 #[derive(Clone, Copy)]
 pub enum Fault {
+    // No code word is near enough to this word.
+    NoCodeWord { word: u32 },
     // The check byte is not that of the body.
     CheckByte,
     // A refusal of another make: number 100 + code, with a place of its own.
@@ -49,6 +51,7 @@ impl Fault {
         ensures late_number { λ r. ⌜ Late r ⌝ }
     {
         match *self {
+            Fault::NoCodeWord { .. } => 5,
             Fault::CheckByte => 6,
             Fault::Other { code, .. } => 100 + u32::from(code),
         }
@@ -59,6 +62,7 @@ impl Fault {
         ensures { λ r. ⌜ r ≡ fault-place (now (self .entry)) ⌝ }
     {
         match *self {
+            Fault::NoCodeWord { word } => word,
             Fault::CheckByte => 0,
             Fault::Other { place, .. } => place,
         }

@@ -38,6 +38,15 @@ impl<S, C> Unstacked<S, C> {
     }
 }
 
+impl<S, C> Stack<S, C> {
+    // The stage and the carrier, apart again.
+    pub fn into_parts(self) -> (S, C)
+        ensures { λ r. ⌜ r .0 ≡ self .stage ⌝ ∗ ⌜ r .1 ≡ self .carrier ⌝ }
+    {
+        (self.stage, self.carrier)
+    }
+}
+
 impl<S: Stage, C: Carrier> Stack<S, C> {
     // Sets a stage on a carrier, or hands both back where the lengths differ or the carrier is 32 high.
     pub fn new(stage: S, carrier: C) -> Result<Stack<S, C>, Unstacked<S, C>>

@@ -2,7 +2,7 @@
 use mathlib.Core.Path.{_≡_, refl, sym, ap, _∙_}
 use mathlib.Core.List.{List, [], _∷_, _++_}
 use mathlib.Core.Bool.{Bool, true, false}
-use mathlib.Core.Logic.{inl}
+use mathlib.Core.Logic.{inl, inr}
 use Prim.Native.Nat.{ℕ, _+_, _≤_, _<_}
 use native.Mathlib.Omega.{arith}
 use borrow.Author.Tests.{eq-eqb}
@@ -24,7 +24,7 @@ decode-front n y =
 
 kept : (b : Bool) (n : ℕ) (x : List ℕ) → length x ≡ n → Decodes (checking n) (checked b x)
 kept true n x h = record { body = h; count = omega arith }
-kept false n x h = inl refl
+kept false n x h = inr (inl refl)
 
 pub checking-rule : (n : ℕ) → 1 ≤ n → n < 98304 → StageRule (checking n)
 checking-rule n low high = record {

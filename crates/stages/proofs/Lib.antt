@@ -1,6 +1,6 @@
-mod Checked
-mod Keyed
-mod Moved
-mod Registers
-mod Remainders
-mod Sequences
+pub mod Checked
+pub mod Keyed
+pub mod Moved
+pub mod Registers
+pub mod Remainders
+pub mod Sequences

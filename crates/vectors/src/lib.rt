@@ -1,5 +1,7 @@
 // Published vectors and whole runs, as tests. There is nothing here but tests.
 #[cfg(test)]
+mod outer;
+#[cfg(test)]
 mod randomiser;
 #[cfg(test)]
 mod stacks;

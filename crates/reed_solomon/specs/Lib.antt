@@ -1,0 +1,5 @@
+pub mod Coding
+pub mod Bursts
+pub mod WordByWord
+pub mod Protecting
+pub mod Examples

@@ -114,3 +114,7 @@ pub marks-to-small : (rate : Rate) (w : Word) (n k : ℕ) → getD (marks-to rat
 unfolding Small marks-to step-marks
 marks-to-small rate w zero k = omega arith
 marks-to-small rate w (suc t) k = small-append (marks-to rate w t) (step-marks rate t (window w t)) (marks-to-small rate w t) (kept-small rate t (window w t) 0 (generators rate)) k
+
+pub marks-small : (rate : Rate) (w : Word) (k : ℕ) → getD (marks rate w) k 0 < 2
+unfolding marks
+marks-small rate w k = marks-to-small rate (fed w) (length w + 6) k

@@ -3,7 +3,7 @@ use mathlib.Core.Bool.{Bool, true, false, cond, not, _&&_}
 use mathlib.Core.List.{List, [], _∷_}
 use mathlib.Core.Logic.{⊎-elim}
 use mathlib.Core.Path.{_≡_, refl, ap, ap₂, _∙_}
-use Prim.Native.Nat.{ℕ, zero, suc, _+_, _*_, _/_, _%_, _^_, _<_}
+use Prim.Native.Nat.{ℕ, zero, suc, _+_, _*_, _/_, _%_, _^_, _<_, _≤_}
 use native.Mathlib.Omega.{arith}
 use lib.Dec.{eqb}
 use lib.ListN.{length, getD}
@@ -146,3 +146,16 @@ count-three-quarters (suc n) = go (eqb (n % 3) 1) (eqb (n % 3) 2) refl refl (cou
     go true false d e h = omega (arith, eqb-true (n % 3) 1 d)
     go false true d e h = omega (arith, eqb-true (n % 3) 2 e)
     go false false d e h = let k : n % 3 ≡ 1 → ⊥ = eqb-false (n % 3) 1 d in let l : n % 3 ≡ 2 → ⊥ = eqb-false (n % 3) 2 e in omega arith
+
+-- every step keeps a mark
+pub steps-marks : (rate : Rate) (n : ℕ) → n ≤ marks-before rate n
+steps-marks Half n = omega (arith, count-half n)
+steps-marks TwoThirds n = omega (arith, count-two-thirds n)
+steps-marks ThreeQuarters n = omega (arith, count-three-quarters n)
+steps-marks Third n = omega (arith, count-third n)
+
+pub marks-before-mono : (rate : Rate) (m n : ℕ) → m ≤ n → marks-before rate m ≤ marks-before rate n
+marks-before-mono Half m n h = omega (arith, count-half m, count-half n)
+marks-before-mono TwoThirds m n h = omega (arith, count-two-thirds m, count-two-thirds n)
+marks-before-mono ThreeQuarters m n h = omega (arith, count-three-quarters m, count-three-quarters n)
+marks-before-mono Third m n h = omega (arith, count-third m, count-third n)

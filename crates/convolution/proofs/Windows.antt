@@ -56,7 +56,7 @@ unfolding value
 value-one true = refl
 value-one false = refl
 
-digit : (n : ℕ) → bit (eqb (n % 2) 1) ≡ n % 2
+pub digit : (n : ℕ) → bit (eqb (n % 2) 1) ≡ n % 2
 digit n = go (eqb (n % 2) 1) refl
   where
     go : (b : Bool) → eqb (n % 2) 1 ≡ b → bit b ≡ n % 2

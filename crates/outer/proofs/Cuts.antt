@@ -20,7 +20,7 @@ use Rattle.outer.specs.declared.lanes.Row.{Row}
 use Rattle.outer.specs.ByteLists.{Bytes}
 use Rattle.outer.specs.Decoding.{applied}
 use Rattle.outer.specs.Lanes.{lane, at, Are}
-use Rattle.outer.specs.Cutting.{always, from, polynomial, Vector, Moved, FirstFailing, Sum, factor, Cleared, Leads, Cut, Power, Powers, Annihilator}
+use Rattle.outer.specs.Cutting.{always, from, polynomial, Vector, Moved, FirstFailing, factor, Cleared, Leads, Cut, Power, Powers, Annihilator}
 use Rattle.outer.proofs.Bytewise.{xor-small, bytes-take}
 use Rattle.outer.proofs.Rows.{row-more}
 use Rattle.outer.proofs.Zeros.{getD-zeros, bytes-zeros}

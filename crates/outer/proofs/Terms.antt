@@ -2,7 +2,7 @@
 use mathlib.Core.Path.{_≡_, refl, sym, ap, ap₂, subst, _∙_}
 use mathlib.Core.Bool.{Bool, true, false, cond}
 use mathlib.Core.List.{List, [], _∷_, _++_}
-use Prim.Native.Nat.{ℕ, zero, suc, _+_, _-_, _*_, _≤_, _<_}
+use Prim.Native.Nat.{ℕ, zero, suc, _+_, _-_, _*_, _%_, _≤_, _<_}
 use native.Mathlib.Nat.{mul-zero, mul-add, add-mul, one-mul, add-zero}
 use native.Mathlib.Omega.{arith}
 use lib.Bits.{bitXor, xor-zero-r, xor-zero-l, xor-assoc}
@@ -13,7 +13,7 @@ use Rattle.std.specs.Iters.{counting}
 use Rattle.std.specs.shelf.Lists.{kept-by}
 use Rattle.std.proofs.shelf.Lists.{append-nil}
 use Rattle.galois.specs.Bytes.{ByteField, FieldRule, power, raised}
-use Rattle.galois.proofs.Raising.{power-add, power-small}
+use Rattle.galois.proofs.Raising.{power-add, power-small, power-remainder}
 use Rattle.outer.specs.ByteLists.{Bytes}
 use Rattle.outer.specs.Lanes.{lane}
 use Rattle.outer.specs.Correction.{Listed}
@@ -43,34 +43,32 @@ listed-stay t p old m known not-here few =
 module _ (f : ByteField) (rule : FieldRule f) where
   -- the term of degree l at the power m of 02
   abbrev pub term : List ℕ → ℕ → ℕ → ℕ
-  term cs m l = f .mul (lane cs l) (power f (m * l))
+  term cs m l = f .mul (power f (m * l)) (lane cs l)
 
-  power-none : (m : ℕ) → power f (m * 0) ≡ 1
+  -- the power m of 02 once more
+  pub power-more : (m l x : ℕ) → x ≡ power f (m * l) → f .mul x (power f m) ≡ power f (m * (l + 1))
+  power-more m l x e =
+      let one-on : m * l + m ≡ m * (l + 1) = sym (mul-add m l 1 ∙ ap (λ k. m * l + k) (omega arith)) in
+      ap (λ y. f .mul y (power f m)) e ∙ sym (power-add f rule (m * l) m) ∙ ap (power f) one-on
+
+  pub power-none : (m : ℕ) → 1 ≡ power f (m * 0)
   unfolding power raised
-  power-none m = ap (power f) (mul-zero m)
+  power-none m = sym (ap (power f) (mul-zero m))
 
-  -- one power of 02 less: the term of degree l times the power 255 - l
-  pub term-halved : (cs : List ℕ) (m l : ℕ) → lane cs l < 256 → l < 32 → f .mul (power f (255 - l)) (term cs (m + 1) l) ≡ term cs m l
-  term-halved cs m l h small =
-      let c = lane cs l in
-      let a = power f (m * l) in
-      let b = power f l in
-      let x = power f (255 - l) in
-      let ha : a < 256 = power-small f rule (m * l) in
-      let hb : b < 256 = power-small f rule l in
-      let hx : x < 256 = power-small f rule (255 - l) in
+  -- one power of 02 less: each term times the power 254 as often as its degree says
+  pub term-halved : (cs : List ℕ) (m l : ℕ) → lane cs l < 256 → f .mul (power f (254 * l)) (term cs (m + 1) l) ≡ term cs m l
+  term-halved cs m l h =
+      let x = power f (254 * l) in
+      let y = power f ((m + 1) * l) in
       let exponent : (m + 1) * l ≡ m * l + l = add-mul m 1 l ∙ ap (λ k. m * l + k) (one-mul l) in
-      let whole : l + (255 - l) ≡ 255 = omega arith in
-      let product : power f ((m + 1) * l) ≡ f .mul a b = ap (power f) exponent ∙ power-add f rule (m * l) l in
-      let gone : f .mul b x ≡ 1 = sym (power-add f rule l (255 - l)) ∙ ap (power f) whole ∙ rule .order in
-      ap (λ y. f .mul x (f .mul c y)) product
-      ∙ rule .mul-comm x (f .mul c (f .mul a b)) hx (rule .mul-small c (f .mul a b) h (rule .mul-small a b ha hb))
-      ∙ rule .mul-assoc c (f .mul a b) x h (rule .mul-small a b ha hb) hx
-      ∙ ap (f .mul c) (rule .mul-assoc a b x ha hb hx ∙ ap (f .mul a) gone ∙ rule .mul-one a ha)
+      let rounds : (254 * l + (m + 1) * l) % 255 ≡ m * l % 255 = ap (λ k. (254 * l + k) % 255) exponent ∙ omega arith in
+      sym (rule .mul-assoc x y (lane cs l) (power-small f rule (254 * l)) (power-small f rule ((m + 1) * l)) h)
+      ∙ ap (λ z. f .mul z (lane cs l))
+      (sym (power-add f rule (254 * l) ((m + 1) * l)) ∙ sym (power-remainder f rule (254 * l + (m + 1) * l)) ∙ ap (power f) rounds ∙ power-remainder f rule (m * l))
 
   -- terms from degree j on, summed, are a power times the polynomial of their coefficients
   sum-from : (m j a : ℕ) (cs ts : List ℕ) → Bytes cs → length ts ≡ length cs
-      → ((i : ℕ) → i < length cs → getD ts i 0 ≡ f .mul (getD cs i 0) (power f (m * (j + i))))
+      → ((i : ℕ) → i < length cs → getD ts i 0 ≡ f .mul (power f (m * (j + i))) (getD cs i 0))
       → foldL bitXor a ts ≡ bitXor a (f .mul (power f (m * j)) (polynomial-at f cs (power f m)))
   unfolding polynomial-at
   sum-from m j a [] [] hc e each = sym (ap (bitXor a) (times-zero f rule (power f (m * j)) (power-small f rule (m * j))) ∙ xor-zero-r a)
@@ -83,13 +81,12 @@ module _ (f : ByteField) (rule : FieldRule f) where
       let hx : x < 256 = power-small f rule m in
       let hy : y < 256 = power-small f rule (m * j) in
       let hp : p < 256 = polynomial-small f rule cs x (λ i. hc (suc i)) hx in
-      let one-on : m * (j + 1) ≡ m * j + m = mul-add m j 1 ∙ ap (λ k. m * j + k) (omega arith) in
-      let first : t ≡ f .mul y c = each 0 (omega arith) ∙ ap (λ k. f .mul c (power f (m * k))) (add-zero j) ∙ rule .mul-comm c y (hc 0) hy in
+      let first : t ≡ f .mul y c = each 0 (omega arith) ∙ ap (λ k. f .mul (power f (m * k)) c) (add-zero j) in
       sum-from m (j + 1) (bitXor a t) cs ts (λ i. hc (suc i)) (omega arith)
-      (λ i h. let same : j + suc i ≡ j + 1 + i = omega arith in each (suc i) (omega arith) ∙ ap (λ k. f .mul (getD cs i 0) (power f (m * k))) same)
+      (λ i h. let same : j + suc i ≡ j + 1 + i = omega arith in each (suc i) (omega arith) ∙ ap (λ k. f .mul (power f (m * k)) (getD cs i 0)) same)
       ∙ xor-assoc a t (f .mul (power f (m * (j + 1))) p)
       ∙ ap (bitXor a)
-      (ap₂ bitXor first (ap (λ k. f .mul (power f k) p) one-on ∙ ap (λ z. f .mul z p) (power-add f rule (m * j) m) ∙ rule .mul-assoc y x p hy hx hp)
+      (ap₂ bitXor first (ap (λ z. f .mul z p) (sym (power-more m j y refl)) ∙ rule .mul-assoc y x p hy hx hp)
       ∙ sym (rule .distrib y c (f .mul x p) hy (hc 0) (rule .mul-small x p hx hp)))
 
   -- all terms, summed, are the value of the polynomial
@@ -98,9 +95,9 @@ module _ (f : ByteField) (rule : FieldRule f) where
   terms-sum m cs ts hc e each =
       let p = polynomial-at f cs (power f m) in
       let hp : p < 256 = polynomial-small f rule cs (power f m) hc (power-small f rule m) in
-      sum-from m 0 0 cs ts hc e (λ i h. each i h ∙ ap (λ k. f .mul (getD cs i 0) (power f (m * k))) (omega arith))
+      sum-from m 0 0 cs ts hc e (λ i h. each i h ∙ ap (λ k. f .mul (power f (m * k)) (getD cs i 0)) (omega arith))
       ∙ xor-zero-l (f .mul (power f (m * 0)) p)
-      ∙ ap (λ y. f .mul y p) (power-none m) ∙ rule .mul-comm 1 p (omega arith) hp ∙ rule .mul-one p hp
+      ∙ ap (λ y. f .mul y p) (sym (power-none m)) ∙ rule .mul-comm 1 p (omega arith) hp ∙ rule .mul-one p hp
 
   -- zeros behind the coefficients change nothing
   pub polynomial-padded : (k : ℕ) (cs : List ℕ) (x : ℕ) → x < 256 → ((l : ℕ) → k ≤ l → lane cs l ≡ 0) → polynomial-at f (take k cs) x ≡ polynomial-at f cs x

@@ -1,8 +1,8 @@
 // The values of the errors at known places, and the word without them.
 ghost use mathlib.Core.Path.{_≡_};
-ghost use Prim.Native.Nat.{ℕ, _<_, _≤_};
+ghost use Prim.Native.Nat.{_<_, _≤_};
 ghost use lib.ListN.{length, take};
-ghost use Rattle.outer.specs.Correction.{Inside, OnePass};
+ghost use Rattle.outer.specs.Correction.{Inside, OnePass, Constant, LocatorMultiples};
 ghost use Rattle.outer.specs.Decoding.{error-value, corrected, errors};
 use super::error_places::Places;
 use super::lanes::Multiples;
@@ -18,17 +18,38 @@ fn pass(x: &Multiples, sums: u8x32) -> u8x32
     moved(sums) ^ x.times(sums)
 }
 
+// The constant whose multiples stand in every lane.
+fn constant(multiples: &Multiples) -> u8
+    ensures { λ k. ⌜ Constant (now (multiples .entry) .rows) k ⌝ }
+{
+    multiples.rows[0].lanes.to_array()[0]
+}
+
+// For each place the multiples of its locator.
+fn locator_multiples<F: Field>(field: &F, places: &Places, n: usize) -> [Multiples; 16]
+    requires { ⌜ Inside n (now places .count) (now places .at) ⌝ }
+    ensures { λ m. ⌜ LocatorMultiples (F·Field .meaning (now (field .entry))) n (now (places .entry) .count) (now (places .entry) .at) m ⌝ }
+{
+    let mut multiples = [scalar_multiples(field, 0); 16];
+    for i in 0..places.count {
+        let place = usize::from(places.at[i]);
+        multiples[i] = scalar_multiples(field, field.power(n - 1 - place));
+    }
+    multiples
+}
+
 // The value of the error at one of the places of a word of n bytes.
 fn error_value<F: Field>(
     field: &F,
     syndromes: &[u8; 32],
     places: &Places,
+    multiples: &[Multiples; 16],
     place: usize,
     r: usize,
     n: usize,
 ) -> u8
     requires known { ⌜ place < n ⌝ ∗ ⌜ n ≤ 255 ⌝ ∗ ⌜ r ≤ 254 ⌝ }
-    requires inside { ⌜ Inside n (now places .count) (now places .at) ⌝ }
+    requires located { ⌜ LocatorMultiples (F·Field .meaning (now field)) n (now places .count) (now places .at) (now multiples) ⌝ }
     ensures { λ v. ⌜ v ≡ error-value (F·Field .meaning (now (field .entry))) r n (take (now (places .entry) .count) (now (places .entry) .at)) (now (syndromes .entry)) place ⌝ }
 {
     let here = field.power(n - 1 - place);
@@ -37,9 +58,8 @@ fn error_value<F: Field>(
     for i in 0..places.count {
         let other = usize::from(places.at[i]);
         if other != place {
-            let there = field.power(n - 1 - other);
-            sums = pass(&scalar_multiples(field, there), sums);
-            divisor = field.mul(divisor, here ^ there);
+            sums = pass(&multiples[i], sums);
+            divisor = field.mul(divisor, here ^ constant(&multiples[i]));
         }
     }
     field.mul(sums.to_array()[0], field.inverse(divisor))
@@ -59,10 +79,11 @@ pub fn correct<F: Field>(
     ensures count { λ c. ⌜ c ≡ errors (error-value (F·Field .meaning (now (field .entry))) r (length (now (word .entry))) (take (now (places .entry) .count) (now (places .entry) .at)) (now (syndromes .entry))) (take (now (places .entry) .count) (now (places .entry) .at)) ⌝ }
 {
     let n = word.len();
+    let multiples = locator_multiples(field, places, n);
     let mut count = 0;
     for i in 0..places.count {
         let place = usize::from(places.at[i]);
-        let value = error_value(field, syndromes, places, place, r, n);
+        let value = error_value(field, syndromes, places, &multiples, place, r, n);
         word[place] ^= value;
         if value != 0 {
             count += 1;

@@ -1,13 +1,14 @@
 // The places of a word at whose locators a polynomial is zero.
 ghost use mathlib.Core.Path.{_≡_};
 ghost use mathlib.Core.List.{[], _∷_, _++_};
-ghost use Prim.Native.Nat.{ℕ, _-_, _*_, _<_, _≤_};
+ghost use Prim.Native.Nat.{ℕ, _*_, _<_, _≤_};
 ghost use lib.ListN.{length, take};
 ghost use Rattle.galois.specs.Bytes.{power};
 ghost use Rattle.outer.specs.Correction.{Listed};
 ghost use Rattle.outer.specs.Lanes.{lane};
 ghost use Rattle.outer.specs.Decoding.{locator-zeros};
-use super::lanes::multiples_of;
+use super::locator::lane_multiples;
+use super::locator::scales;
 use galois::field::Field;
 use std::simd::prelude::*;
 
@@ -46,27 +47,18 @@ impl Places {
     }
 }
 
-// The terms of a polynomial at the power m of 02, lowest coefficient first.
-fn terms_at<F: Field>(field: &F, polynomial: &[u8; 32], m: usize) -> [u8; 32]
-    requires { ⌜ m ≤ 254 ⌝ }
-    ensures { λ t. ⌜ ((l : ℕ) → l < 32 → lane t l ≡ F·Field .meaning (now (field .entry)) .mul (lane (now (polynomial .entry)) l) (power (F·Field .meaning (now (field .entry))) (m * l))) ⌝ }
+// The powers 0, m, 2 m, .. , 31 m of 02.
+fn powers<F: Field>(field: &F, m: usize) -> [u8; 32]
+    ensures { λ s. ⌜ ((l : ℕ) → l < 32 → lane s l ≡ power (F·Field .meaning (now (field .entry))) (m * l)) ⌝ }
 {
-    let mut terms = [0; 32];
+    let mut powers = [0; 32];
+    let factor = field.power(m);
+    let mut next = 1;
     for l in 0..32 {
-        terms[l] = field.mul(polynomial[l], field.power(m * l));
+        powers[l] = next;
+        next = field.mul(next, factor);
     }
-    terms
-}
-
-// What takes the term of each degree on to the next place, whose locator is half of the last.
-fn halvings<F: Field>(field: &F) -> [u8; 32]
-    ensures { λ s. ⌜ ((l : ℕ) → l < 32 → lane s l ≡ power (F·Field .meaning (now (field .entry))) (255 - l)) ⌝ }
-{
-    let mut factors = [0; 32];
-    for l in 0..32 {
-        factors[l] = field.power(255 - l);
-    }
-    factors
+    powers
 }
 
 // The places of a word of n bytes at whose locators a polynomial is zero, if they are at most 16.
@@ -74,8 +66,11 @@ pub fn locator_zeros<F: Field>(field: &F, polynomial: &[u8; 32], n: usize) -> Pl
     requires { ⌜ 1 ≤ n ⌝ ∗ ⌜ n ≤ 255 ⌝ }
     ensures { λ r. ⌜ (length (locator-zeros (F·Field .meaning (now (field .entry))) n (now (polynomial .entry))) ≤ 16 → Listed (locator-zeros (F·Field .meaning (now (field .entry))) n (now (polynomial .entry))) (r .at) (r .count)) ⌝ }
 {
-    let onward = multiples_of(field, &halvings(field));
-    let mut terms = u8x32::from_array(terms_at(field, polynomial, n - 1));
+    let scales = scales(field);
+    // The next place has half the locator, and half is the power 254 of 02.
+    let onward = lane_multiples(&scales, u8x32::from_array(powers(field, 254)));
+    let first = lane_multiples(&scales, u8x32::from_array(powers(field, n - 1)));
+    let mut terms = first.times(u8x32::from_array(*polynomial));
     let mut places = Places::none();
     for p in 0..n {
         if terms.reduce_xor() == 0 {

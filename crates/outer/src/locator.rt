@@ -1,7 +1,6 @@
 // The locator polynomial: one that annihilates the syndromes, whose zeros locate the errors.
-ghost use mathlib.Core.Path.{_≡_};
-ghost use Prim.Native.Nat.{ℕ, _+_, _<_, _≤_};
-ghost use Rattle.outer.specs.Lanes.{lane, Are};
+ghost use Prim.Native.Nat.{_<_, _≤_};
+ghost use Rattle.outer.specs.Lanes.{Are};
 ghost use Rattle.outer.specs.Cutting.{always, Scales, Scaled, Moved, MovedOn, Applies, Power, Powers, Fails, Clears, ClearsAll, Cuts, Annihilator};
 use super::encoder::NEXT;
 use super::lanes::Multiples;
@@ -25,7 +24,7 @@ pub fn scalar_multiples<F: Field>(field: &F, k: u8) -> Multiples
 }
 
 // The multiples of the bytes 1, 2, 4, .. , 128, each in every lane.
-fn scales<F: Field>(field: &F) -> [Multiples; 8]
+pub fn scales<F: Field>(field: &F) -> [Multiples; 8]
     ensures { λ r. ⌜ Scales (F·Field .meaning (now (field .entry))) r ⌝ }
 {
     let mut scales = [Multiples {
@@ -40,7 +39,7 @@ fn scales<F: Field>(field: &F) -> [Multiples; 8]
 }
 
 // The multiples of a vector's bytes, a row at once.
-fn lane_multiples(scales: &[Multiples; 8], v: u8x32) -> Multiples
+pub fn lane_multiples(scales: &[Multiples; 8], v: u8x32) -> Multiples
     ensures { λ r. ⌜ Scaled (now (scales .entry)) v (r .rows) ⌝ }
 {
     let mut rows = [Row {

@@ -1,5 +1,5 @@
 -- A code word stays; else the errors are located and taken off, and the verdict is whether that gives a code word.
-use mathlib.Core.Path.{_≡_, sym, _∙_}
+use mathlib.Core.Path.{sym, _∙_}
 use native.Mathlib.Omega.{arith}
 use Rattle.outer.proofs.Repairs.{repaired-itself, places-inside, repaired-found, nearest-lost}
 use Rattle.outer.proofs.code.correct_word.Needs as need

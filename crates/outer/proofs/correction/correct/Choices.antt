@@ -1,7 +1,7 @@
 -- The word with the values at the places so far, and their number.
 use mathlib.Core.Path.{_≡_}
 use Prim.Native.Nat.{_≤_}
-use lib.ListN.{length, take}
+use lib.ListN.{take}
 use Rattle.outer.specs.Decoding.{error-value, corrected, errors}
 use Rattle.outer.proofs.correction.correct.Given as given
 

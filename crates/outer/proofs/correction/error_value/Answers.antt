@@ -1,6 +1,6 @@
 -- A pass for each other place.
 use mathlib.Core.Path.{_≡_, sym, ap, ap₂, subst, _∙_}
-use Prim.Native.Nat.{_-_, _+_, _*_, _<_, _≤_}
+use Prim.Native.Nat.{_<_, _≤_}
 use native.Mathlib.Omega.{arith}
 use lib.Bits.{bitXor}
 use lib.ListN.{length, getD, take}
@@ -11,9 +11,6 @@ use Rattle.outer.specs.Decoding.{locator, others}
 use Rattle.outer.proofs.ErrorValues.{Passing, passing-none, passing-other, passing-same, passing-value}
 use Rattle.outer.proofs.correction.error_value.Needs as need
 use Rattle.outer.proofs.correction.error_value.Needs.{then-other-place, else-other-place}
-
-pub sub-n-then-other-place-2 : need.sub-n-then-other-place-2
-sub-n-then-other-place-2 g c = omega (arith, c .pre .inside (c .loop-i .i) (c .loop-i-test .taken))
 
 pub loop-i-holds : need.loop-i-holds
 loop-i-holds g c =
@@ -34,20 +31,21 @@ loop-i-again g c =
     let count = c .args .places .now .count in
     let zs = take count at in
     let i = c .loop-i .i in
-    let q = c .from-other .result in
+    let q = getD at i 0 in
     let size : count ≤ length at = omega arith in
     let inside : i < length zs = omega (arith, length-take-le count at size) in
-    let is : getD zs i 0 ≡ q = getD-take count at i 0 (c .loop-i-test .taken) ∙ sym (c .from-other .ensures) in
+    let is : getD zs i 0 ≡ q = getD-take count at i 0 (c .loop-i-test .taken) in
+    let there = locator f n q in
+    let are = c .pre .located i (c .loop-i-test .taken) in
     let sums = c .loop-i .sums in
     let d = c .loop-i .divisor in
     let t = c .if-other-place .sums in
     let k = c .if-other-place .divisor in
     elim (c .if-other-place .came) [
-      | then-other-place w ↦ passing-other f rule r n p s zs sums t d k i q inside is (c .loop-i .inv) (w .if-other-place .taken) (c .loop-i .kept .sums .0) (c .if-other-place .kept .sums .0)
-          (λ l h. ap (λ v. lane v l) (w .sums-is) ∙ w .pass-sums .ensures f (always (w .power-there .result)) rule (w .scalar-multiples .ensures) l h
-          ∙ ap (λ x. bitXor (lane sums (1 + l)) (f .mul x (lane sums l))) (w .power-there .ensures))
-          (w .divisor-is ∙ w .mul-divisor .ensures ∙ ap₂ (λ a b. f .mul d (bitXor a b)) (c .power-here .ensures) (w .power-there .ensures))
-      | else-other-place w ↦ passing-same f rule r n p s zs sums t d k i q inside is (c .loop-i .inv) (w .if-other-place .left) (w .sums-is) (w .divisor-is)
+      | then-other-place w ↦ passing-other f rule r n p s zs sums t d k i q inside is (c .loop-i .inv) (λ e. w .if-other-place .taken (c .from-other .ensures ∙ e)) (c .loop-i .kept .sums .0) (c .if-other-place .kept .sums .0)
+          (λ l h. ap (λ v. lane v l) (w .sums-is) ∙ w .pass-sums .ensures f (always there) rule are l h)
+          (w .divisor-is ∙ w .mul-divisor .ensures ∙ ap₂ (λ a b. f .mul d (bitXor a b)) (c .power-here .ensures) (w .constant .ensures f there rule are))
+      | else-other-place w ↦ passing-same f rule r n p s zs sums t d k i q inside is (c .loop-i .inv) (sym (c .from-other .ensures) ∙ w .if-other-place .left) (w .sums-is) (w .divisor-is)
     ]
 
 pub returns : need.returns

@@ -1,8 +1,7 @@
 -- A sum of terms that is 0 is one place more, and each term goes on to the next place.
 use mathlib.Core.Path.{_≡_, sym, ap, subst, _∙_}
-use mathlib.Core.List.{[], _∷_, _++_}
-use Prim.Native.Nat.{_-_, _+_, _%_}
-use native.Mathlib.Nat.{mod-eq-of-lt}
+use Prim.Native.Nat.{_-_, _+_, _*_}
+use native.Mathlib.Nat.{sub-zero}
 use native.Mathlib.Omega.{arith}
 use lib.ListN.{length, take}
 use Rattle.std.specs.Iters.{counting}
@@ -16,6 +15,20 @@ use Rattle.outer.specs.Lanes.{lane}
 use Rattle.outer.proofs.Terms.{listed-push, listed-stay, term, term-halved, terms-sum}
 use Rattle.outer.proofs.error_places.locator_zeros.Needs as need
 use Rattle.outer.proofs.error_places.locator_zeros.Needs.{then-terms-eq0, else-terms-eq0}
+
+pub loop-p-holds : need.loop-p-holds
+loop-p-holds g c =
+    let field = c .args .field .now in
+    let f = g .F·Field .meaning field in
+    let rule = g .F·Field·met .rule field in
+    let n = c .args .n in
+    let cs = c .args .polynomial .now in (
+      λ few. record { begins = ap (λ k. take k (c .none-places .result .at)) (c .none-places .ensures); counted = c .none-places .ensures },
+      λ h l k.
+          c .times-terms .ensures f (lane (c .powers-2 .result)) rule (c .lane-multiples-first .ensures f rule (c .scales-scales .ensures)) l k
+          ∙ ap (λ x. f .mul x (lane cs l)) (c .powers-2 .ensures l k)
+          ∙ ap (λ m. term f rule cs m l) (sym (sub-zero (n - 1))),
+    )
 
 pub loop-p-again : need.loop-p-again
 unfolding is-located locator
@@ -39,10 +52,10 @@ loop-p-again g c =
       ],
       λ h l k.
           let one-less : n - 1 - p ≡ n - 1 - (p + 1) + 1 = omega arith in
-          c .times-terms .ensures f (lane (c .halvings .result)) rule (c .multiples-of-onward .ensures) l k
-          ∙ ap (λ x. f .mul x (lane (c .loop-p .terms) l)) (c .halvings .ensures l k)
-          ∙ ap (f .mul (power f (255 - l))) (c .loop-p .inv .1 (c .loop-p-test .taken) l k ∙ ap (λ m. term f rule cs m l) one-less)
-          ∙ term-halved f rule cs (n - 1 - (p + 1)) l (c .fits-polynomial l) k,
+          c .times-terms-in-loop-p .ensures f (lane (c .powers .result)) rule (c .lane-multiples-onward .ensures f rule (c .scales-scales .ensures)) l k
+          ∙ ap (λ x. f .mul x (lane (c .loop-p .terms) l)) (c .powers .ensures l k)
+          ∙ ap (f .mul (power f (254 * l))) (c .loop-p .inv .1 (c .loop-p-test .taken) l k ∙ ap (λ m. term f rule cs m l) one-less)
+          ∙ term-halved f rule cs (n - 1 - (p + 1)) l (c .fits-polynomial l),
     )
 
 pub returns : need.returns

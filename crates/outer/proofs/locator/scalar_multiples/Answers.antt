@@ -1,5 +1,5 @@
 -- Each row holds its multiple of the constant in every lane.
-use mathlib.Core.Path.{refl, _∙_}
+use mathlib.Core.Path.{refl}
 use native.Mathlib.Omega.{arith}
 use lib.ListN.{length-set}
 use Rattle.outer.proofs.Cuts.{splat-more}

@@ -113,6 +113,11 @@ fn run(rt: &LibcRuntime) -> Result<(), AnyError> {
     read_damaged(rt, &coder, &block, borne.saturating_add(1), length)
 }
 
+// Runs, and says on standard error what is wrong with the input.
 fn main(rt: LibcRuntime) -> Result<(), AnyError> {
-    rt.report(run(&rt))
+    let outcome = run(&rt);
+    if let Err(fault) = &outcome {
+        eprintln!(rt, "airblock: {fault}")?;
+    }
+    outcome
 }

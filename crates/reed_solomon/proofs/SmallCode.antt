@@ -1,19 +1,17 @@
 -- The code of one data byte and two check bytes in field 1, whose roots are 02 and 04.
-use mathlib.Core.Path.{_≡_, refl, sym, ap, _∙_, subst}
-use mathlib.Core.Bool.{Bool, true, false, cond}
-use mathlib.Core.List.{List, [], _∷_, _++_}
+use mathlib.Core.Path.{_≡_, refl, ap, _∙_, subst}
+use mathlib.Core.Bool.{Bool, true, false}
+use mathlib.Core.List.{List, [], _∷_}
 use Prim.Native.Nat.{ℕ, _+_, _≤_, _<_}
 use native.Mathlib.Omega.{arith}
 use lib.Dec.{eqb, lit<}
-use lib.ListN.{length}
 use Rattle.std.proofs.shelf.Ways.{tells}
-use Rattle.std.specs.declared.option.Option.the-variants.{Some, None}
 use Rattle.std.specs.declared.result.Result.the-variants.{Ok, Err}
 use Rattle.galois.specs.Bytes.{power, raised}
 use Rattle.galois.specs.Polynomials.{times-z, product-of, field-1}
 use Rattle.galois.proofs.Rules.{rule-1}
 use Rattle.outer.specs.ByteLists.{Bytes}
-use Rattle.outer.specs.Nearest.{nearest, Near}
+use Rattle.outer.specs.Nearest.{Near}
 use Rattle.outer.specs.Words.{value-from, value, syndrome, is-code-word, CodeWord, distance, encoded}
 use Rattle.outer.proofs.Bytewise.{bytes-nil, bytes-cons}
 use Rattle.outer.proofs.CodeWords.{code-word-from-test, code-words-apart, encoded-is}

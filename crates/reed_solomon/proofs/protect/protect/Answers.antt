@@ -1,5 +1,5 @@
 -- Both stand where the carrier is as long as the code words and at most 30 high, and what stands is protected.
-use mathlib.Core.Path.{_≡_, refl, sym, ap, _∙_, subst}
+use mathlib.Core.Path.{_≡_, refl, subst}
 use Prim.Native.Nat.{_+_, _*_}
 use Rattle.reed_solomon.specs.declared.stage.ReedSolomon.{ReedSolomon}
 use Rattle.reed_solomon.specs.Bursts.{Protected}

@@ -1,17 +1,14 @@
 -- The data stand in front of zeros, or all is zero.
-use mathlib.Core.Path.{_≡_, sym, ap, _∙_, subst}
-use mathlib.Core.List.{_++_}
-use Prim.Native.Nat.{ℕ, _+_, _-_, _*_, _≤_}
+use mathlib.Core.Path.{_≡_, sym, ap, _∙_}
+use Prim.Native.Nat.{_+_, _-_, _*_}
 use native.Mathlib.Nat.{sub-zero}
 use native.Mathlib.Omega.{arith}
-use lib.ListN.{length, take, drop}
-use borrow.Rule.Slice.PartMut.{postOf, same-len-mid, mid-len}
+use lib.ListN.{length, take}
+use borrow.Rule.Slice.PartMut.{same-len-mid, mid-len}
 use Rattle.stack.specs.Buffers.{zeros}
-use Rattle.stack.specs.Calls.{Decoded}
 use Rattle.reed_solomon.specs.Coding.{words-decoded}
 use Rattle.reed_solomon.specs.WordByWord.{WordsRead}
 use Rattle.reed_solomon.proofs.Handed.{handed-up, refused-up}
-use Rattle.reed_solomon.proofs.stage.ReedSolomonStage.decode.Given as given
 use Rattle.reed_solomon.proofs.stage.ReedSolomonStage.decode.Needs as need
 
 pub returns-then-is-err : need.returns-then-is-err
@@ -19,7 +16,6 @@ returns-then-is-err g c =
     let s = c .args .self .now in
     let f = g .F·Field .meaning (s .field) in
     let n = s .words * (s .length + 2 * s .errors) in
-    let m = s .words * s .length in
     let v = words-decoded f (s .root) (s .length) (s .errors) (s .words) (take n (c .args .from .now)) in
     let read : WordsRead v (c .decode-words-answer .result) (c .decode-words-answer .last .to) = simp (sub-zero, c .lower-lower .ensures) at (c .decode-words-answer .ensures) in
     let from-long = same-len-mid 0 (c .lower-lower .result - 0) (c .args .from .now) (c .decode-words-answer .last .from) (c .decode-words-answer .kept .from) in
@@ -31,7 +27,6 @@ returns-else-is-err g c =
     let s = c .args .self .now in
     let f = g .F·Field .meaning (s .field) in
     let n = s .words * (s .length + 2 * s .errors) in
-    let m = s .words * s .length in
     let v = words-decoded f (s .root) (s .length) (s .errors) (s .words) (take n (c .args .from .now)) in
     let read : WordsRead v (c .decode-words-answer .result) (c .decode-words-answer .last .to) = simp (sub-zero, c .lower-lower .ensures) at (c .decode-words-answer .ensures) in
     let from-long = same-len-mid 0 (c .lower-lower .result - 0) (c .args .from .now) (c .decode-words-answer .last .from) (c .decode-words-answer .kept .from) in

@@ -1,7 +1,7 @@
 -- The code words stand in front of zeros.
-use mathlib.Core.Path.{_≡_, sym, ap, _∙_}
+use mathlib.Core.Path.{_≡_, sym}
 use mathlib.Core.List.{_++_}
-use Prim.Native.Nat.{_+_, _*_, _≤_}
+use Prim.Native.Nat.{_+_, _*_}
 use native.Mathlib.Nat.{sub-zero, le-of-eq}
 use native.Mathlib.Omega.{arith}
 use lib.ListN.{length, take, drop}

@@ -1,4 +1,4 @@
-// The energy-dispersal sequence of digital video broadcasting, byte by byte, as it is published.
+// The energy-dispersal sequence, byte by byte, as another program made it, bit by bit; its first four bytes are the worked example of the rules.
 use stack::stage::Stage;
 use stages::randomiser::Randomiser;
 use stages::randomiser::RandomiserStage;

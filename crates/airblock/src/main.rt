@@ -1,4 +1,6 @@
 // Takes a body, in hex on standard input, through the stages to an air block and back, and prints what takes place.
+#![tactic(auto)]
+
 mod coder;
 mod loopback;
 

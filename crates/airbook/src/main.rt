@@ -1,4 +1,6 @@
 // Runs a book from standard input to its last entry, and prints what became of each entry; or why the book is refused.
+#![tactic(auto)]
+
 use book::contents::{EntryLine, Kind, kind_by_number};
 use book::entry::Entry;
 use book::run::run_book;

@@ -1,4 +1,6 @@
 // Puts a station on an LDACS reverse link and one on the UAT uplink into service, tries every call on them, and prints what each answers.
+#![tactic(auto)]
+
 mod desk;
 mod print;
 mod sample;

@@ -1,4 +1,6 @@
 // The convolutional code of memory six: its rates, its marks, its encoder, and the decoder of least cost.
+#![tactic(auto)]
+
 pub mod encoder;
 mod lanes;
 pub mod marks;

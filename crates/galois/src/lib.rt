@@ -1,4 +1,6 @@
 // Fields of bytes.
+#![tactic(auto)]
+
 pub mod chosen;
 pub mod field;
 pub mod field1;

@@ -1,4 +1,6 @@
 // Bytes as hexadecimal text, and back.
+#![tactic(auto)]
+
 ghost use Rattle.std.specs.Prelude.{◌≡◌, ℕ, ◌*◌, ◌/◌, ◌%◌, ◌<◌, true, List, length, is_some, IfSome, IfOk, Some, string_bytes, MatchOption, MatchResult};
 ghost use Rattle.hex_text.specs.declared.HexError.TheVariants.{Memory};
 ghost use Rattle.hex_text.specs.Digits.{digit, letter, written, Pair, Says, Leads};

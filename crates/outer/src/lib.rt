@@ -1,4 +1,6 @@
 // Reed-Solomon codes over any field of bytes.
+#![tactic(auto)]
+
 pub mod code;
 pub mod correction;
 pub mod encoder;

@@ -1,3 +1,5 @@
 // Rearranging lent slices by a permutation of their places.
+#![tactic(auto)]
+
 pub mod arrange;
 pub mod transpose;

@@ -1,4 +1,6 @@
 // Coding stages on carriers: the two interfaces, the stack of a stage on a carrier, and the bare carrier.
+#![tactic(auto)]
+
 pub mod bare;
 pub mod buffer;
 pub mod carrier;

@@ -1,4 +1,6 @@
 // Stations: one carrier in service under a number, with counts of what it wrote and read.
+#![tactic(auto)]
+
 pub mod answer;
 pub mod counts;
 pub mod examples;

@@ -1,4 +1,6 @@
 // Published vectors and whole runs, as tests. There is nothing here but tests.
+#![tactic(auto)]
+
 #[cfg(test)]
 mod outer;
 #[cfg(test)]

@@ -1,5 +1,5 @@
 use Rattle.std.proofs.Common.{sym, ◌∙◌, arith}
-use native.Mathlib.Nat.{mod_self}
+use Rattle.std.proofs.Math.Nat.{mod_self}
 use Rattle.limits.proofs.Within.{sound, none_out, data_low, data_high}
 use Rattle.plan.proofs.plan.Plan.new.Goals as goal
 

@@ -1,5 +1,5 @@
 -- The least word in the order of time, the oldest bit first: what it costs, and that it is before all others.
-use Rattle.std.proofs.Common.{◌≡◌, ℕ, zero, suc, ◌+◌, ◌-◌, ◌<◌, ◌≤◌, Bool, true, false, cond, ◌⊎◌, List, [], ◌∷◌, ◌++◌, reverse, length, get_or, sym, refl, ap, ◌∙◌, inl, inr, append_assoc, add-zero, add_assoc, add-suc, suc-add, zero-add, arith, length-append}
+use Rattle.std.proofs.Common.{◌≡◌, ℕ, zero, suc, ◌+◌, ◌-◌, ◌<◌, ◌≤◌, Bool, true, false, ◌⊎◌, List, [], ◌∷◌, ◌++◌, reverse, length, get_or, sym, refl, ap, ◌∙◌, inl, inr, append_assoc, add-zero, add_assoc, add-suc, suc-add, zero-add, arith, length-append}
 use mathlib.Core.List.{reverse-cons, reverse-append, reverse-reverse}
 use lib.ListN.{length-reverse}
 use Rattle.std.proofs.lemmas.List.{get_or_past, get_or_append_left, get_or-append_right, get_or-reverse, get_or-replicate}

@@ -6,8 +6,6 @@ ghost use Rattle.galois.specs.Bytes.{ByteField, FieldRule, power};
 pub trait Field {
     ghost meaning: { Self → ByteField };
 
-    ghost rule: { (f : Self) → FieldRule (meaning f) };
-
     // The product of two bytes.
     fn mul(&self, a: u8, b: u8) -> u8
         ensures { result ≡ (meaning self.now).mul a b };
@@ -19,4 +17,6 @@ pub trait Field {
     // The power of 02 with exponent e.
     fn power(&self, e: usize) -> u8
         ensures { result ≡ power (meaning self.now) e };
+
+    ghost rule: { (f : Self) → FieldRule (meaning f) };
 }

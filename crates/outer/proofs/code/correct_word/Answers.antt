@@ -7,7 +7,7 @@ pub returns-then-all_zero : goal.returns-then-all_zero
 returns-then-all_zero g c =
     let field = c.args.field.now in
     let f = g.F.Field.meaning field in
-    let rule = g.F.Field.rule field in
+    let rule = g.met.F.Field.rule field in
     repaired_itself f rule c.args.r c.args.e c.args.word.now c.requires.sizes c.syndromes-found.ensures.small.0
     (λ j h. sym (c.syndromes-found.ensures.lanes f c.args.r rule c.requires.roots j (omega arith)) ∙ c.all_zero.ensures.zero c.if-all_zero.true j h)
 
@@ -15,7 +15,7 @@ pub correct-count-requires : goal.correct-count-requires
 correct-count-requires g c =
     let field = c.args.field.now in
     let f = g.F.Field.meaning field in
-    let rule = g.F.Field.rule field in
+    let rule = g.met.F.Field.rule field in
     record {
       known = (c.requires.sizes.short, c.requires.sizes.low);
       inside = places_inside f rule c.args.r c.args.e c.args.word.now c.requires.sizes c.syndromes-found.ensures.small.0 c.syndromes-found.result
@@ -27,7 +27,7 @@ pub returns-then-all_zero-2 : goal.returns-then-all_zero-2
 returns-then-all_zero-2 g c =
     let field = c.args.field.now in
     let f = g.F.Field.meaning field in
-    let rule = g.F.Field.rule field in
+    let rule = g.met.F.Field.rule field in
     repaired_found f rule c.args.r c.args.e c.args.word.now c.requires.sizes c.syndromes-found.ensures.small.0 c.syndromes-found.result
     c.annihilator-polynomial.result c.locator_zeros-places.result.at c.locator_zeros-places.result.count c.syndromes-found.ensures.small.1
     (c.syndromes-found.ensures.lanes f c.args.r rule c.requires.roots) c.annihilator-polynomial.ensures c.locator_zeros-places.ensures
@@ -38,7 +38,7 @@ pub returns-else-all_zero-2 : goal.returns-else-all_zero-2
 returns-else-all_zero-2 g c =
     let field = c.args.field.now in
     let f = g.F.Field.meaning field in
-    let rule = g.F.Field.rule field in
+    let rule = g.met.F.Field.rule field in
     nearest_lost f rule c.args.r c.args.e c.args.word.now c.requires.sizes c.syndromes-found.ensures.small.0 c.syndromes-found.result
     c.annihilator-polynomial.result c.locator_zeros-places.result.at c.locator_zeros-places.result.count c.syndromes-found.ensures.small.1
     (c.syndromes-found.ensures.lanes f c.args.r rule c.requires.roots) c.annihilator-polynomial.ensures c.locator_zeros-places.ensures

@@ -12,14 +12,14 @@ use Rattle.outer.proofs.correction.error_value.Goals.{then-other-place, else-oth
 pub loop-i-init : goal.loop-i-init
 loop-i-init g c =
     let field = c.args.field.now in
-    passing_none (g.F.Field.meaning field) (g.F.Field.rule field) c.args.r c.args.n c.args.place c.args.syndromes.now c.power-divisor.result c.power-divisor.ensures
+    passing_none (g.F.Field.meaning field) (g.met.F.Field.rule field) c.args.r c.args.n c.args.place c.args.syndromes.now c.power-divisor.result c.power-divisor.ensures
 
 pub loop-i-preserved : goal.loop-i-preserved
 unfolding locator
 loop-i-preserved g c =
     let field = c.args.field.now in
     let f = g.F.Field.meaning field in
-    let rule = g.F.Field.rule field in
+    let rule = g.met.F.Field.rule field in
     let r = c.args.r in
     let n = c.args.n in
     let p = c.args.place in
@@ -57,5 +57,5 @@ returns g c =
     let size : count ≤ length at = omega arith in
     let whole : take c.loop-i.i zs ≡ zs = take_all c.loop-i.i zs (omega (arith, length-take-le count at size)) in
     c.mul.ensures ∙ ap (f.mul (lane c.loop-i.sums 0)) c.inverse.ensures
-    ∙ passing_value f (g.F.Field.rule field) c.args.r c.args.n p s zs c.loop-i.sums c.loop-i.divisor
+    ∙ passing_value f (g.met.F.Field.rule field) c.args.r c.args.n p s zs c.loop-i.sums c.loop-i.divisor
     (subst (λ l. Passing f c.args.r c.args.n p (others p l) s c.loop-i.sums c.loop-i.divisor) whole c.loop-i.invariant)

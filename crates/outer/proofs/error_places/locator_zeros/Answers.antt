@@ -16,7 +16,7 @@ pub loop-p-init : goal.loop-p-init
 loop-p-init g c =
     let field = c.args.field.now in
     let f = g.F.Field.meaning field in
-    let rule = g.F.Field.rule field in
+    let rule = g.met.F.Field.rule field in
     let n = c.args.n in
     let cs = c.args.polynomial.now in (
       λ few. record { begins = ap (λ k. take k c.none-places.result.at) c.none-places.ensures; counted = c.none-places.ensures },
@@ -31,7 +31,7 @@ unfolding is_located locator
 loop-p-preserved g c =
     let field = c.args.field.now in
     let f = g.F.Field.meaning field in
-    let rule = g.F.Field.rule field in
+    let rule = g.met.F.Field.rule field in
     let cs = c.args.polynomial.now in
     let n = c.args.n in
     let p = c.loop-p.p in

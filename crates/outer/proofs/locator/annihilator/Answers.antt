@@ -9,7 +9,7 @@ loop-j-init g c =
     let f = g.F.Field.meaning field in
     let s = c.args.syndromes.now in (
       cut_powers f c.args.e s c.powers-polynomials.result (omega arith) c.powers-polynomials.ensures,
-      are_from_start f s c.lane_multiples-equation.result.rows (c.lane_multiples-equation.ensures f (g.F.Field.rule field) c.scales-scales.ensures),
+      are_from_start f s c.lane_multiples-equation.result.rows (c.lane_multiples-equation.ensures f (g.met.F.Field.rule field) c.scales-scales.ensures),
     )
 
 pub loop-j-preserved : goal.loop-j-preserved
@@ -19,7 +19,7 @@ loop-j-preserved g c =
     let s = c.args.syndromes.now in
     let j = c.loop-j._j in (
       c.cut-n.ensures c.args.e s j (omega arith) c.fits-syndromes c.scales-scales.ensures c.loop-j.invariant.1 c.loop-j.invariant.0,
-      c.next_lanes-equation.ensures f s j (g.F.Field.rule field) (omega arith) c.loop-j.invariant.1,
+      c.next_lanes-equation.ensures f s j (g.met.F.Field.rule field) (omega arith) c.loop-j.invariant.1,
     )
 
 pub cut-n-requires : goal.cut-n-requires
@@ -28,5 +28,5 @@ cut-n-requires g c = omega (arith, c.loop-j.invariant.0.few)
 pub returns : goal.returns
 returns g c =
     let field = c.args.field.now in
-    cut_annihilates (g.F.Field.meaning field) (g.F.Field.rule field) c.args.e c.args.syndromes.now c.loop-j._j c.loop-j.n c.loop-j.polynomials (omega arith) (omega arith)
+    cut_annihilates (g.F.Field.meaning field) (g.met.F.Field.rule field) c.args.e c.args.syndromes.now c.loop-j._j c.loop-j.n c.loop-j.polynomials (omega arith) (omega arith)
     c.fits-syndromes c.loop-j.invariant.0

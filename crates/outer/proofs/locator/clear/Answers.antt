@@ -12,7 +12,7 @@ pub loop-c-preserved : goal.loop-c-preserved
 loop-c-preserved g c =
     let field = c.args.field.now in
     let f = g.F.Field.meaning field in
-    let rule = g.F.Field.rule field in
+    let rule = g.met.F.Field.rule field in
     let ps = c.args.polynomials.now in
     let qs = c.loop-c.polynomials in
     let i = c.loop-c.c in

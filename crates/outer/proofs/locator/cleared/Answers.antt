@@ -13,7 +13,7 @@ pub returns : goal.returns
 returns g c s j p are pivot e =
     let field = c.args.field.now in
     let f = g.F.Field.meaning field in
-    let rule = g.F.Field.rule field in
+    let rule = g.met.F.Field.rule field in
     let v = c.args.v in
     let k = c.mul-factor.result in
     let r = zip2 bit_xor v c.times.result in

@@ -27,10 +27,10 @@ pub overflow_add-result : goal.overflow_add-result
 overflow_add-result c = omega (arith, row_small c, column_small c)
 
 pub overflow_mul-result-2 : goal.overflow_mul-result-2
-overflow_mul-result-2 c = omega (arith, place_small c)
+overflow_mul-result-2 c = grind (arith, place_small c)
 
 pub overflow_add-result-2 : goal.overflow_add-result-2
-overflow_add-result-2 c = omega (arith, place_small c, row_small c)
+overflow_add-result-2 c = grind (arith, place_small c, row_small c)
 
 pub returns : goal.returns
 returns c = sym (wound-at c.args.self.now.a c.args.self.now.b c.args.row c.args.column c.requires.1)

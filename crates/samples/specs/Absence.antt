@@ -1,7 +1,7 @@
 -- Clean readings are all there, and give the body back.
-use Rattle.std.specs.Prelude.{◌≡◌, ℕ, suc, ◌+◌, ◌-◌, ◌<◌, ◌≤◌, Bool, true, false, cond, ◌&&◌, List, [], ◌∷◌, ◌++◌, map, length, take, drop, set, is_some, Some, None, Ok, Err, Option, slice_index_or, slice_set, refl}
+use Rattle.std.specs.Prelude.{◌≡◌, ℕ, suc, ◌+◌, ◌<◌, ◌≤◌, Bool, true, false, cond, ◌&&◌, List, [], ◌∷◌, ◌++◌, map, length, take, drop, set, is_some, Some, None, Ok, Err, Option, slice_index_or, slice_set, refl}
 use Rattle.std.proofs.Common.{sym, ap, ◌∙◌, inr, arith}
-use Rattle.std.proofs.lemmas.List.{take_more, at_drop_more, length-take-le, get_or_default, length-map}
+use Rattle.std.proofs.lemmas.List.{take_more, at_drop_more, length-take-le, length-map}
 use Rattle.std.specs.Option.{unwrap_or}
 use Rattle.stack.specs.declared.fault.Fault.TheVariants.{Other}
 use Rattle.stack.specs.Buffers.{padded}

@@ -1,5 +1,5 @@
 -- The stage that appends a fixed byte and looks for it.
-use Rattle.std.specs.Prelude.{ℕ, ◌+◌, cond, List, [], ◌∷◌, ◌++◌, take, Ok, Err, ◌==◌, slice_index}
+use Rattle.std.specs.Prelude.{ℕ, ◌+◌, cond, [], ◌∷◌, ◌++◌, take, Ok, Err, ◌==◌, slice_index}
 use Rattle.stack.specs.declared.fault.Fault.TheVariants.{Other}
 use Rattle.stack.specs.Meaning.{StageMeaning}
 

@@ -1,6 +1,6 @@
 -- The stage that appends a fixed byte keeps the stage rule.
-use Rattle.std.specs.Prelude.{◌≡◌, ℕ, ◌+◌, ◌<◌, ◌≤◌, Bool, true, false, cond, List, [], ◌∷◌, ◌++◌, length, take, Ok, Err, ◌==◌, slice_index, slice_index_or, refl}
-use Rattle.std.proofs.Common.{sym, ap, ◌∙◌, inr, arith, length-append}
+use Rattle.std.specs.Prelude.{◌≡◌, ℕ, ◌+◌, ◌<◌, ◌≤◌, Bool, true, false, cond, List, [], ◌∷◌, length, take, Ok, Err, ◌==◌, slice_index, slice_index_or}
+use Rattle.std.proofs.Common.{inr, arith, length-append}
 use Rattle.std.proofs.lemmas.List.{places, get_or_at, get_or-take, take_at, take-take, length-take-le}
 use Rattle.stack.specs.declared.fault.Fault.TheVariants.{Other}
 use Rattle.stack.specs.Rules.{Decodes, StageRule}

@@ -1,5 +1,5 @@
 -- A stage that may be left out.
-use Rattle.std.specs.Prelude.{ℕ, Some, None, Option}
+use Rattle.std.specs.Prelude.{Some, None, Option}
 use Rattle.stack.specs.Meaning.{StageMeaning, CarrierMeaning, stacked, Meets}
 
 -- a stage set on a carrier, or the carrier alone

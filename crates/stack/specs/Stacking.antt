@@ -1,12 +1,12 @@
 -- A stage that keeps its rule, set on a carrier that keeps its own, is a carrier that keeps it.
-use Rattle.std.specs.Prelude.{◌≡◌, ℕ, ◌+◌, ◌-◌, ◌*◌, ◌^◌, ◌<◌, ◌≤◌, min, max, List, length, take, IsErrAnd, Ok, Err, Result, refl}
+use Rattle.std.specs.Prelude.{◌≡◌, ℕ, ◌+◌, ◌-◌, ◌*◌, ◌^◌, ◌<◌, ◌≤◌, min, List, length, take, IsErrAnd, Ok, Err, Result, refl}
 use Rattle.std.proofs.Common.{sym, ap, ◌∙◌, arith}
 use Rattle.std.proofs.lemmas.List.{length-take-le}
 use Rattle.stack.specs.declared.corrections.Corrections.{Corrections}
 use Rattle.stack.specs.declared.fault.Fault.{Fault}
 use Rattle.stack.specs.declared.fault.CarrierFault.{CarrierFault}
 use Rattle.stack.specs.Buffers.{zeros}
-use Rattle.stack.specs.Calls.{counted, decoded_into, Encoded, Decoded, answered, received_into, Sent, Held, Got}
+use Rattle.stack.specs.Calls.{counted, decoded_into, Encoded, Decoded, answered, received_into, Sent, Got}
 use Rattle.stack.specs.Faults.{at_top}
 use Rattle.stack.specs.Meaning.{Corrected, Received, StageMeaning, CarrierMeaning, decoded, raised, stacked, Meets}
 use Rattle.stack.specs.Rules.{Decodes, StageRule, Receives, CarrierRule}

@@ -1,7 +1,7 @@
 // The bare carrier: symbols and readings are the bytes of the body.
 ghost use Rattle.std.specs.Prelude.{◌≡◌, ◌≤◌, MatchOption};
 ghost use Rattle.stack.specs.Bare.{bare};
-ghost use Rattle.std.proofs.Common.{rules, arith};
+ghost use Rattle.std.proofs.Common.{rules};
 
 use crate::buffer::{clear, clear_steps, load};
 use crate::carrier::Carrier;
@@ -34,7 +34,7 @@ impl Carrier for Bare {
 
     ghost meaning = { λ c. bare c.length };
 
-    ghost rule = { first_of (Prim.search rules, Prim.grind (arith, Self.row.coded.inj)) };
+    ghost rule = { Prim.search rules };
 
     fn body_length(&self) -> usize {
         self.length

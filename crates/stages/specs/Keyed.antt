@@ -1,5 +1,5 @@
 -- The randomiser keeps the stage rule.
-use Rattle.std.specs.Prelude.{◌≡◌, ℕ, ◌≤◌, Ok}
+use Rattle.std.specs.Prelude.{ℕ, ◌≤◌, Ok}
 use Rattle.std.proofs.Common.{ap, ◌∙◌, arith}
 use Rattle.stack.specs.Rules.{StageRule}
 use Rattle.stages.specs.Randomising.{randomising}

@@ -1,5 +1,5 @@
 -- The block interleaver keeps the stage rule.
-use Rattle.std.specs.Prelude.{◌≡◌, ℕ, ◌+◌, ◌*◌, ◌<◌, ◌≤◌, Ok, slice_index, refl}
+use Rattle.std.specs.Prelude.{ℕ, ◌+◌, ◌*◌, ◌<◌, ◌≤◌, Ok, slice_index, refl}
 use Rattle.std.proofs.Common.{sym, ap, ◌∙◌, subst, mul_comm, arith}
 use Rattle.std.proofs.Math.Nat.{one-le-mul}
 use Rattle.permutation.specs.Arrange.{arranged}

@@ -1,6 +1,6 @@
 -- A number that holds a register: its bits, and eight steps at once.
 use Rattle.std.specs.Prelude.{◌≡◌, ℕ, zero, suc, ◌+◌, ◌*◌, ◌/◌, ◌%◌, ◌^◌, ◌<◌, Bool, true, false, List, [], ◌∷◌, ◌++◌, map, length, take, drop, ◌==◌, bit_and, bit_or, bit_xor, slice_index_or, refl}
-use Rattle.std.proofs.Common.{sym, ap₂, subst, ◌∙◌, append_assoc, append-nil, add-suc, add_zero, suc-add, div-one, pow_suc, add-one, one-add, arith, length-take}
+use Rattle.std.proofs.Common.{sym, ap₂, subst, ◌∙◌, append_assoc, append-nil, add-suc, add-zero, suc-add, div-one, pow-suc, add-one, one-add, arith, length-take}
 use Rattle.std.proofs.Math.Path.{ap}
 use Rattle.std.proofs.Math.Bool.{xor}
 use Rattle.std.proofs.Math.Nat.{zero-div, zero-mod, mod-one}
@@ -27,7 +27,7 @@ odd_held b reg = omega (arith, bit_lt b)
 held_lt : (reg : List Bool) → held reg < 2 ^ length reg
 unfolding held
 held_lt [] = omega arith
-held_lt (b ∷ reg) = omega (arith, bit_lt b, held_lt reg, pow_suc 2 (length reg))
+held_lt (b ∷ reg) = omega (arith, bit_lt b, held_lt reg, pow-suc 2 (length reg))
 
 -- without its k lowest bits
 held-drop : (k : ℕ) (reg : List Bool) → held reg / 2 ^ k ≡ held (drop k reg)
@@ -96,9 +96,9 @@ stages_moved reg h = by_place (λ r. drop 8 (after 8 r) ≡ take 7 r) reg h (λ 
 -- a number with bits written behind it
 continued_lt : (bits : List Bool) (k v : ℕ) → v < 2 ^ k → continued v bits < 2 ^ (k + length bits)
 unfolding continued
-continued_lt [] k v h = rw add_zero h
+continued_lt [] k v h = rw add-zero h
 continued_lt (b ∷ bits) k v h =
-    rw (add-suc k (length bits), ← suc-add k (length bits)) (continued_lt bits (suc k) (2 * v + bit b) (omega (arith, bit_lt b, pow_suc 2 k)))
+    rw (add-suc k (length bits), ← suc-add k (length bits)) (continued_lt bits (suc k) (2 * v + bit b) (omega (arith, bit_lt b, pow-suc 2 k)))
 
 length-sums : (n : ℕ) (reg : List Bool) → length (sums n reg) ≡ n
 unfolding sums

@@ -1,10 +1,10 @@
 -- A body's check byte: the remainder of the body times z^8 by z^8 + z^7 + z^4 + z^2 + z + 1, over the field of two elements.
 use Rattle.std.specs.Prelude.{◌≡◌, ℕ, ◌+◌, ◌*◌, ◌/◌, ◌%◌, ◌<◌, cond, List, [], ◌∷◌, ◌++◌, replicate, bit_xor, nat_lt}
-use Rattle.std.specs.List.{AllByRecursion as All}
+use Rattle.std.specs.List.{AllByRecursion}
 
 -- coefficients over the field of two elements: each is 0 or 1
 abbrev pub Coefficients : List ℕ → Type 0
-Coefficients = All (λ b. b < 2)
+Coefficients = AllByRecursion (λ b. b < 2)
 
 -- the bits of a byte, highest first
 unfoldable pub bits : ℕ → List ℕ

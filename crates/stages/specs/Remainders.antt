@@ -1,6 +1,6 @@
 -- The remainder of a body, byte after byte, and what makes it the only one.
 use Rattle.std.specs.Prelude.{◌≡◌, ℕ, ◌+◌, ◌*◌, ◌/◌, ◌%◌, ◌<◌, ◌≤◌, ◌⊎◌, List, [], ◌∷◌, ◌++◌, map, length, take, replicate, bit_xor, nat_lt, slice_index, slice_index_or, refl}
-use Rattle.std.proofs.Common.{sym, ap, ap₂, ◌∙◌, subst, inl, inr, append_assoc, append-nil, mul_comm, add_zero, zero_add, arith}
+use Rattle.std.proofs.Common.{sym, ap, ap₂, ◌∙◌, subst, inl, inr, append_assoc, append-nil, mul_comm, add-zero, zero-add, arith}
 use Rattle.std.specs.Int.Bits.{xor_zero_r, xor_assoc, xor_self, xor_shifted}
 use Rattle.std.proofs.lemmas.Nat.{xor_comm, xor_lt, xor_shr, xor_block}
 use Rattle.std.proofs.lemmas.List.FromFn.{get_or-map-range_with_len}
@@ -23,10 +23,10 @@ xor_twice a b = xor_assoc a b b ∙ ap (bit_xor a) (xor_self b) ∙ xor_zero_r a
 next_xor : (m r b : ℕ) → b < 2 → 2 * bit_xor m r + b ≡ bit_xor (2 * m) (2 * r + b)
 next_xor m r b h =
     ap (λ n. n + b) (mul_comm 2 (bit_xor m r)) ∙ sym (xor_block 1 m r 0 b (omega arith) h)
-    ∙ ap₂ bit_xor (add_zero (m * 2) ∙ mul_comm m 2) (ap (λ n. n + b) (mul_comm r 2))
+    ∙ ap₂ bit_xor (add-zero (m * 2) ∙ mul_comm m 2) (ap (λ n. n + b) (mul_comm r 2))
 
 double_xor : (m n : ℕ) → 2 * bit_xor m n ≡ bit_xor (2 * m) (2 * n)
-double_xor m n = sym (add_zero (2 * bit_xor m n)) ∙ next_xor m n 0 (omega arith) ∙ ap (bit_xor (2 * m)) (add_zero (2 * n))
+double_xor m n = sym (add-zero (2 * bit_xor m n)) ∙ next_xor m n 0 (omega arith) ∙ ap (bit_xor (2 * m)) (add-zero (2 * n))
 
 bit_cases : (q : ℕ) → q < 2 → (q ≡ 0) ⊎ (q ≡ 1)
 bit_cases q h = go (cases_lt q 1)
@@ -81,7 +81,7 @@ unfolding divided
 divided_xor r s [] hr hs k = refl
 divided_xor r s (b ∷ bs) hr hs (hb, k) =
     ap (λ x. divided x bs)
-    (ap reduced (next_xor r s b hb ∙ ap (λ x. bit_xor x (2 * s + b)) (sym (add_zero (2 * r)))) ∙ reduced_xor (2 * r + 0) (2 * s + b) (omega arith) (omega arith))
+    (ap reduced (next_xor r s b hb ∙ ap (λ x. bit_xor x (2 * s + b)) (sym (add-zero (2 * r)))) ∙ reduced_xor (2 * r + 0) (2 * s + b) (omega arith) (omega arith))
     ∙ divided_xor (reduced (2 * r + 0)) (reduced (2 * s + b)) bs (reduced_small (2 * r + 0) (omega arith)) (reduced_small (2 * s + b) (omega arith)) k
 
 number_from_grows : (v : ℕ) (bs : List ℕ) → v ≤ number_from v bs
@@ -132,7 +132,7 @@ number_from-bits v b h =
 divided-bits : (r b : ℕ) → r < 256 → b < 256 → divided r (bits b) ≡ bit_xor (divided r (replicate 8 0)) b
 unfolding bits
 divided-bits r b hr hb =
-    let whole : number_from 0 (bits b) ≡ b = number_from-bits 0 b hb ∙ zero_add b in
+    let whole : number_from 0 (bits b) ≡ b = number_from-bits 0 b hb ∙ zero-add b in
     ap (λ x. divided x (bits b)) (sym (xor_zero_r r)) ∙ divided_xor r 0 (bits b) hr (omega arith) (bits_coefficients b)
     ∙ ap (bit_xor (divided r (replicate 8 0))) (divided-number 0 (bits b) (omega arith) ∙ whole)
 
@@ -208,7 +208,7 @@ number_push : (body : List ℕ) (c : ℕ) → c < 256 → number (all_bits (body
 unfolding number followed bits
 number_push body c h =
     let n = number_from 0 (all_bits body) in
-    let zeros : number_from n (replicate 8 0) ≡ n * 256 = number_from-bits n 0 (omega arith) ∙ add_zero (n * 256) in
+    let zeros : number_from n (replicate 8 0) ≡ n * 256 = number_from-bits n 0 (omega arith) ∙ add-zero (n * 256) in
     ap number (all_bits_push body c) ∙ number_from-append 0 (all_bits body) (bits c) ∙ number_from-bits n c h ∙ sym (xor_shifted n 8 c h)
     ∙ ap (λ x. bit_xor x c) (sym (number_from-append 0 (all_bits body) (replicate 8 0) ∙ zeros))
 

@@ -1,7 +1,7 @@
 -- The sequence byte after byte, and a body with the sequence added.
 use Rattle.std.specs.Prelude.{◌≡◌, ℕ, zero, suc, ◌+◌, ◌*◌, ◌%◌, ◌<◌, ◌≤◌, Bool, List, [], ◌∷◌, ◌++◌, length, take, drop, bit_xor, slice_index, slice_set}
 use Rattle.std.proofs.Math.Path.{refl, ap, ap₂}
-use Rattle.std.proofs.Common.{sym, ◌∙◌, mod-eq_of_lt, mul-add, suc-add, zero_add, add-one}
+use Rattle.std.proofs.Common.{sym, ◌∙◌, mod-eq_of_lt, mul-add, suc-add, zero-add, add-one}
 use Rattle.std.proofs.Math.Bool.{xor}
 use mathlib.Core.List.{append_assoc, append-nil}
 use Rattle.std.proofs.Math.Nat.{mod-add-mod, mod_self}
@@ -14,7 +14,7 @@ use Rattle.stages.specs.Registers.{sums_lt}
 -- n steps after m steps
 after_add : (m n : ℕ) (reg : List Bool) → after (m + n) reg ≡ after n (after m reg)
 unfolding after
-after_add zero n reg = rw (zero_add n)
+after_add zero n reg = rw (zero-add n)
 after_add (suc m) n reg = rw (suc-add m n) (after_add m n (stepped reg))
 
 pub after_more : (j : ℕ) (reg : List Bool) → after 8 (after (8 * j) reg) ≡ after (8 * (j + 1)) reg

@@ -1,4 +1,4 @@
-use Rattle.std.proofs.Common.{◌≡◌, take, ap, ◌∙◌, rules}
+use Rattle.std.proofs.Common.{◌≡◌, take, rules}
 use native.Mathlib.Nat.{sub-zero}
 use Rattle.stages.specs.Remainder.{check_byte}
 use Rattle.stages.specs.Checked.{decode_front}

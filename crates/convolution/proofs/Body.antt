@@ -1,5 +1,5 @@
 -- The marks of a body, byte after byte and then the tail.
-use Rattle.std.proofs.Common.{◌≡◌, ℕ, zero, suc, ◌+◌, ◌*◌, ◌<◌, ◌≤◌, Bool, true, false, cond, List, [], ◌∷◌, ◌++◌, length, get_or, take, sym, refl, ap, ◌∙◌, subst, ap₂, add_zero, add-suc, add-one, arith}
+use Rattle.std.proofs.Common.{◌≡◌, ℕ, zero, suc, ◌+◌, ◌*◌, ◌<◌, ◌≤◌, Bool, true, false, cond, List, [], ◌∷◌, ◌++◌, length, get_or, take, sym, refl, ap, ◌∙◌, subst, ap₂, add-zero, add-suc, add-one, arith}
 use Rattle.std.specs.List.{flat_map}
 use Rattle.std.proofs.lemmas.List.{append-nil, append_assoc, flat_map_more, length-append, length-take-le, take_more, take_all}
 use Rattle.convolution.specs.declared.encoder.Encoder.{Encoder}
@@ -35,7 +35,7 @@ length-sent rate w = length-marks_to rate w (length w)
 
 marks_to-front : (rate : Rate) (w : Word) (t n : ℕ) → (rest : List ℕ) × (marks_to rate w (t + n) ≡ marks_to rate w t ++ rest)
 unfolding marks_to
-marks_to-front rate w t zero = ([], ap (marks_to rate w) (add_zero t) ∙ sym (append-nil (marks_to rate w t)))
+marks_to-front rate w t zero = ([], ap (marks_to rate w) (add-zero t) ∙ sym (append-nil (marks_to rate w t)))
 marks_to-front rate w t (suc n) =
     let before = marks_to-front rate w t n in (
       before.0 ++ step_marks rate (t + n) (window w (t + n)),

@@ -1,5 +1,5 @@
 -- Words of equal length with the same marks are the same: every step keeps a mark, and every mark turns with the newest bit.
-use Rattle.std.proofs.Common.{◌≡◌, ℕ, zero, suc, ◌+◌, ◌-◌, ◌*◌, ◌%◌, ◌<◌, ◌≤◌, Bool, true, false, cond, not, eqb, ◌⊎◌, List, [], ◌∷◌, ◌++◌, length, get_or, take, drop, sym, refl, ap, ◌∙◌, ap₂, inl, inr, add_zero, arith}
+use Rattle.std.proofs.Common.{◌≡◌, ℕ, zero, suc, ◌+◌, ◌-◌, ◌*◌, ◌%◌, ◌<◌, ◌≤◌, Bool, true, false, cond, not, eqb, ◌⊎◌, List, [], ◌∷◌, ◌++◌, length, get_or, take, drop, sym, refl, ap, ◌∙◌, inl, inr, add-zero, arith}
 use Rattle.std.proofs.lemmas.List.{get_or_append_left, get_or-append_right, take_at, drop_at, ext_get_or}
 use Rattle.std.proofs.lemmas.Bool.{eqb-true, cases_lt}
 use Rattle.convolution.specs.declared.rate.Rate.{Rate}
@@ -39,8 +39,8 @@ turned_differs rate t low h e = elim (step_tells rate t (low + 64) low e) [ inl 
 bit_tells : (rate : Rate) (t low : ℕ) (b c : Bool) → low < 64 → step_marks rate t (low + 64 * bit b) ≡ step_marks rate t (low + 64 * bit c) → b ≡ c
 bit_tells rate t low true true h e = refl
 bit_tells rate t low false false h e = refl
-bit_tells rate t low true false h e = absurd (turned_differs rate t low h (e ∙ ap (step_marks rate t) (add_zero low)))
-bit_tells rate t low false true h e = absurd (turned_differs rate t low h (sym e ∙ ap (step_marks rate t) (add_zero low)))
+bit_tells rate t low true false h e = absurd (turned_differs rate t low h (e ∙ ap (step_marks rate t) (add-zero low)))
+bit_tells rate t low false true h e = absurd (turned_differs rate t low h (sym e ∙ ap (step_marks rate t) (add-zero low)))
 
 -- the six older bits of the window at place t
 low : Word → ℕ → ℕ

@@ -1,5 +1,5 @@
 -- Two halves of a step make the whole.
-use Rattle.std.proofs.Common.{◌≡◌, ℕ, ◌+◌, ◌-◌, ◌*◌, ◌/◌, ◌%◌, ◌^◌, ◌<◌, Bool, true, false, cond, not, ltb, List, ◌++◌, length, get_or, sym, refl, ap, ◌∙◌, inl, inr, add_zero, arith}
+use Rattle.std.proofs.Common.{◌≡◌, ℕ, ◌+◌, ◌-◌, ◌*◌, ◌/◌, ◌%◌, ◌^◌, ◌<◌, Bool, true, false, cond, not, ltb, List, ◌++◌, length, get_or, sym, refl, ap, ◌∙◌, inl, inr, add-zero, arith}
 use lib.Bits.{bit_or}
 use Rattle.std.proofs.lemmas.Nat.{shl_whole, or_comm, or_shifted, shr_high, shr-shr}
 use Rattle.std.proofs.lemmas.List.{get_or_append_left, get_or-append_right}
@@ -45,7 +45,7 @@ whole cost ms first second a b x y =
     let B : ℕ → ℕ = λ k. bit (not (takes cost ms k)) in
     let kept : (s : ℕ) → s < 64 → bit_of n s ≡ B s =
     λ s h. elim (cases_lt s 32) [
-      | inl l ↦ bit_below a 32 b s x.below l ∙ x.kept s l ∙ ap B (add_zero s)
+      | inl l ↦ bit_below a 32 b s x.below l ∙ x.kept s l ∙ ap B (add-zero s)
       | inr g ↦
           let k = s - 32 in
           let e : k + 32 ≡ s = omega arith in
@@ -53,8 +53,8 @@ whole cost ms first second a b x y =
           ap (λ m. n / 2 ^ m % 2) f ∙ ap (λ v. v % 2) (sym (shr-shr n 32 k)) ∙ ap (λ v. v / 2 ^ k % 2) (shr_high b 32 a x.below) ∙ y.kept k (omega arith) ∙ ap B e
     ] in
     record {
-      least = λ s h. add_zero (get_or (first ++ second) s 0) ∙ elim (cases_lt s 32) [
-        | inl l ↦ get_or_append_left first second 0 s (omega arith) ∙ x.least s l ∙ ap G (add_zero s)
+      least = λ s h. add-zero (get_or (first ++ second) s 0) ∙ elim (cases_lt s 32) [
+        | inl l ↦ get_or_append_left first second 0 s (omega arith) ∙ x.least s l ∙ ap G (add-zero s)
         | inr g ↦ let e : s - 32 + 32 ≡ s = omega arith in get_or-append_right first second 32 s 0 x.count g ∙ y.least (s - 32) (omega arith) ∙ ap G e
       ];
       chosen = λ s h. rw joined (bit-turned 64 n s small h ∙ ap (λ v. 1 - v) (kept s h) ∙ bit_not (takes cost ms s));

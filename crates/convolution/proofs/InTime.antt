@@ -1,5 +1,5 @@
 -- The least word in the order of time, the oldest bit first: what it costs, and that it is before all others.
-use Rattle.std.proofs.Common.{◌≡◌, ℕ, zero, suc, ◌+◌, ◌-◌, ◌<◌, ◌≤◌, Bool, true, false, cond, ◌⊎◌, List, [], ◌∷◌, ◌++◌, reverse, length, get_or, sym, refl, ap, ◌∙◌, inl, inr, append_assoc, add_zero, add_assoc, add-suc, suc-add, zero_add, arith, length-append}
+use Rattle.std.proofs.Common.{◌≡◌, ℕ, zero, suc, ◌+◌, ◌-◌, ◌<◌, ◌≤◌, Bool, true, false, ◌⊎◌, List, [], ◌∷◌, ◌++◌, reverse, length, get_or, sym, refl, ap, ◌∙◌, inl, inr, append_assoc, add-zero, add_assoc, add-suc, suc-add, zero-add, arith, length-append}
 use mathlib.Core.List.{reverse-cons, reverse-append, reverse-reverse}
 use lib.ListN.{length-reverse}
 use Rattle.std.proofs.lemmas.List.{get_or_past, get_or_append_left, get_or-append_right, get_or-reverse, get_or-replicate}
@@ -62,14 +62,14 @@ cost_total cost (b ∷ v) =
 
 cost_append : (price : ℕ → ℕ → ℕ) (i : ℕ) (xs ys : List ℕ) → cost_from price i (xs ++ ys) ≡ cost_from price i xs + cost_from price (i + length xs) ys
 unfolding cost_from
-cost_append price i [] ys = rw (add_zero, zero_add)
+cost_append price i [] ys = rw (add-zero, zero-add)
 cost_append price i (x ∷ xs) ys = rw (cost_append price (suc i) xs ys, add-suc i (length xs), ← suc-add i (length xs)) (sym (add_assoc (price i x) (cost_from price (suc i) xs) (cost_from price (suc i + length xs) ys)))
 
 marks_cost : (rate : Rate) (price : ℕ → ℕ → ℕ) (w : Word) (n : ℕ) → cost_from price 0 (marks_to rate w n) ≡ cost_to (step_cost rate price) (zeros 6 ++ w) n
 unfolding marks_to cost_to cost_from step_cost window
 marks_cost rate price w zero = refl
 marks_cost rate price w (suc n) =
-    let e : 0 + length (marks_to rate w n) ≡ marks_before rate n = zero_add (length (marks_to rate w n)) ∙ length-marks_to rate w n in
+    let e : 0 + length (marks_to rate w n) ≡ marks_before rate n = zero-add (length (marks_to rate w n)) ∙ length-marks_to rate w n in
     cost_append price 0 (marks_to rate w n) (step_marks rate n (window w n))
     ∙ ap (λ i. cost_from price 0 (marks_to rate w n) + cost_from price i (step_marks rate n (window w n))) e
     ∙ ap (λ m. m + step_cost rate price n (window w n)) (marks_cost rate price w n)
@@ -88,7 +88,7 @@ pub least-reverse : (rate : Rate) (price : ℕ → ℕ → ℕ) (n : ℕ) → le
 unfolding least
 least-reverse rate price n =
     let f = λ (d : Word). total (step_cost rate price) (zeros 6 ++ d) in
-    ap reverse (best_like n 0 (λ u. total_cost rate price (reverse u)) f (λ v l. total-reverse rate price v ∙ sym (add_zero (f v))))
+    ap reverse (best_like n 0 (λ u. total_cost rate price (reverse u)) f (λ v l. total-reverse rate price v ∙ sym (add-zero (f v))))
 
 turn_round : (b : Bool) (c x : Word) → reverse (c ++ (b ∷ x)) ≡ reverse x ++ (b ∷ reverse c)
 turn_round b c x = reverse-append c (b ∷ x) ∙ ap (λ u. u ++ reverse c) (reverse-cons b x) ∙ append_assoc (reverse x) (b ∷ []) (reverse c)

@@ -1,5 +1,5 @@
 -- The traceback from state 0 gives the least word, and then the zeros before it began. Words are held newest bit first.
-use Rattle.std.proofs.Common.{◌≡◌, ℕ, zero, suc, ◌+◌, ◌*◌, ◌%◌, ◌<◌, ◌≤◌, Bool, true, false, [], ◌∷◌, ◌++◌, length, get_or, sym, refl, ap, ◌∙◌, add_zero, arith}
+use Rattle.std.proofs.Common.{◌≡◌, ℕ, zero, suc, ◌+◌, ◌*◌, ◌%◌, ◌<◌, ◌≤◌, Bool, true, false, [], ◌∷◌, ◌++◌, length, get_or, sym, refl, ap, ◌∙◌, add-zero, arith}
 use Rattle.std.proofs.lemmas.Bool.Decides.{nat_tests}
 use Rattle.convolution.specs.Code.{Word, bit, zeros}
 use Rattle.convolution.specs.Cost.{best}
@@ -108,7 +108,7 @@ module _ (cost : ℕ → ℕ → ℕ) (below : (t w : ℕ) → cost t w ≤ 384)
   way-total : (n : ℕ) (d : Word) → length d ≡ n → way cost (n + 6) 0 (d ++ zeros 6) ≡ total cost (zeros 6 ++ d) + 0
   way-total n d l =
       let e : length (zeros 6 ++ d) ≡ n + 6 = omega arith in
-      rw (← e, ← leave_six false false false false false false d) (way_of cost (zeros 6 ++ d) ∙ sym (add_zero (total cost (zeros 6 ++ d))))
+      rw (← e, ← leave_six false false false false false false d) (way_of cost (zeros 6 ++ d) ∙ sym (add-zero (total cost (zeros 6 ++ d))))
 
   pub trace-best : (n : ℕ) → trace cost (n + 6) 0 ≡ best n (λ d. total cost (zeros 6 ++ d)) ++ zeros 6
   trace-best n =

@@ -1,5 +1,5 @@
 -- A mark as a sum of bits, one for each bit of the generator.
-use Rattle.std.proofs.Common.{◌≡◌, ℕ, zero, suc, ◌+◌, ◌-◌, ◌*◌, ◌/◌, ◌%◌, ◌^◌, ◌<◌, sym, refl, ap, ◌∙◌, mod-eq_of_lt, add_comm, arith}
+use Rattle.std.proofs.Common.{◌≡◌, ℕ, zero, suc, ◌+◌, ◌*◌, ◌/◌, ◌%◌, ◌^◌, ◌<◌, sym, refl, ap, ◌∙◌, mod-eq_of_lt, add_comm, arith}
 use native.Mathlib.Nat.{zero-div, mod-one}
 use lib.Bits.{bit_and, bit_xor, and_zero_r, and_block, and_mask, and_lt, xor_shr, xor_mod}
 use lib.Count.{ones, ones_cat}

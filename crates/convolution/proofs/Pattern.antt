@@ -5,7 +5,7 @@ use Rattle.std.proofs.lemmas.List.{length-append}
 use Rattle.std.proofs.lemmas.Bool.{eqb-true, eqb-false, and_parts, cases_lt}
 use Rattle.convolution.specs.declared.rate.Rate.{Rate}
 use Rattle.convolution.specs.declared.rate.Rate.TheVariants.{Half, TwoThirds, ThreeQuarters, Third}
-use Rattle.convolution.specs.Code.{Word, bit, mark, keeps, kept_from, step_marks, window, marks_to, marks, fed, marks_before, generators}
+use Rattle.convolution.specs.Code.{Word, mark, keeps, kept_from, step_marks, window, marks_to, marks, fed, marks_before, generators}
 use Rattle.convolution.specs.Encoding.{kept_bit, KeptBits}
 
 below : (ℕ → Bool) → ℕ → Bool

@@ -1,5 +1,5 @@
 -- What the windows of a step cost: by masks, under a turn of the newest or the oldest bit, and against the rule.
-use Rattle.std.proofs.Common.{◌≡◌, ℕ, zero, suc, ◌+◌, ◌-◌, ◌*◌, ◌/◌, ◌%◌, ◌^◌, ◌<◌, ◌≤◌, Bool, true, false, cond, ◌&&◌, eqb, ltb, List, [], ◌∷◌, length, get_or, refl, ap, ◌∙◌, inl, inr, add_zero, add_assoc, zero_add, add-one, arith}
+use Rattle.std.proofs.Common.{◌≡◌, ℕ, zero, suc, ◌+◌, ◌-◌, ◌*◌, ◌/◌, ◌%◌, ◌^◌, ◌<◌, ◌≤◌, Bool, true, false, cond, ◌&&◌, eqb, ltb, List, [], ◌∷◌, length, get_or, refl, ap, ◌∙◌, inl, inr, add-zero, add_assoc, zero-add, add-one, arith}
 use lib.Bits.{bit_and, and_zero_l, and_comm, and_mask, and_block, and_lt}
 use lib.Count.{ones, ones_cat}
 use Rattle.std.proofs.lemmas.Bool.{cond_both, cases_lt}
@@ -130,20 +130,20 @@ kept_cost rate price t w g i m ms = go (keeps rate t g)
   where
     go : (b : Bool) → cost_from price i (cond b (mark m w ∷ kept_from rate t w (suc g) ms) (kept_from rate t w (suc g) ms)) ≡ cond b (price i (mark m w)) 0 + cost_from price (i + bit b) (kept_from rate t w (suc g) ms)
     go true = rw add-one
-    go false = rw (add_zero, zero_add)
+    go false = rw (add-zero, zero-add)
 
 two_slots : (rate : Rate) (price : ℕ → ℕ → ℕ) (t w i a b : ℕ) → cond (keeps rate t 0) (price (i + 0) (mark a w)) 0 + cond (keeps rate t 1) (price (i + (0 + bit (keeps rate t 0))) (mark b w)) 0 + 0 ≡ cost_from price i (kept_from rate t w 0 (a ∷ b ∷ []))
 unfolding kept_from cost_from
 two_slots rate price t w i a b =
     let x = i + bit (keeps rate t 0) in
-    rw (add_zero i, zero_add (bit (keeps rate t 0))) (omega (arith, kept_cost rate price t w 0 i a (b ∷ []), kept_cost rate price t w 1 x b []))
+    rw (add-zero i, zero-add (bit (keeps rate t 0))) (omega (arith, kept_cost rate price t w 0 i a (b ∷ []), kept_cost rate price t w 1 x b []))
 
 three_slots : (rate : Rate) (price : ℕ → ℕ → ℕ) (t w i a b c : ℕ) → cond (keeps rate t 0) (price (i + 0) (mark a w)) 0 + cond (keeps rate t 1) (price (i + (0 + bit (keeps rate t 0))) (mark b w)) 0 + cond (keeps rate t 2) (price (i + ((0 + bit (keeps rate t 0)) + bit (keeps rate t 1))) (mark c w)) 0 ≡ cost_from price i (kept_from rate t w 0 (a ∷ b ∷ c ∷ []))
 unfolding kept_from cost_from
 three_slots rate price t w i a b c =
     let x = i + bit (keeps rate t 0) in
     let y = x + bit (keeps rate t 1) in
-    rw (add_zero i, zero_add (bit (keeps rate t 0)), ← add_assoc i (bit (keeps rate t 0)) (bit (keeps rate t 1)))
+    rw (add-zero i, zero-add (bit (keeps rate t 0)), ← add_assoc i (bit (keeps rate t 0)) (bit (keeps rate t 1)))
     (omega (arith, kept_cost rate price t w 0 i a (b ∷ c ∷ []), kept_cost rate price t w 1 x b (c ∷ []), kept_cost rate price t w 2 y c []))
 
 slots_cost : (rate : Rate) (price : ℕ → ℕ → ℕ) (t w : ℕ) → slot rate price t 0 (mark (generator_at rate 0) w) + slot rate price t 1 (mark (generator_at rate 1) w) + slot rate price t 2 (mark (generator_at rate 2) w) ≡ step_cost rate price t w

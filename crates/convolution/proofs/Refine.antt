@@ -1,5 +1,5 @@
 -- The steps over vectors follow the recursion over the states.
-use Rattle.std.proofs.Common.{◌≡◌, ℕ, zero, suc, ◌+◌, ◌*◌, ◌<◌, Bool, true, false, cond, eqb, ltb, ◌≢◌, List, ◌∷◌, length, get_or, set, replicate, sym, refl, ap, ◌∙◌, add_zero, arith, get_or-set_other, get_or-set_same, below_none, below_more}
+use Rattle.std.proofs.Common.{◌≡◌, ℕ, zero, suc, ◌+◌, ◌*◌, ◌<◌, Bool, true, false, cond, eqb, ltb, ◌≢◌, List, ◌∷◌, length, get_or, set, replicate, sym, refl, ap, ◌∙◌, add-zero, arith, get_or-set_other, get_or-set_same, below_none, below_more}
 use lib.Dec.{eqb-suc-zero}
 use lib.ListN.{get_or-replicate}
 use Rattle.std.proofs.lemmas.Bool.Decides.{nat_tests}
@@ -43,7 +43,7 @@ selected_like cost cost' less ms next d same h =
     }
 
 pub selected_lower : (cost : ℕ → ℕ) (k : ℕ) (ms next less : List ℕ) (d : ℕ) → Selected cost 0 ms next d → ((s : ℕ) → s < 64 → get_or less s 0 + k ≡ get_or next s 0) → Selected cost k ms less d
-selected_lower cost k ms next less d h e = record { least = λ s l. e s l ∙ sym (add_zero (get_or next s 0)) ∙ h.least s l; chosen = h.chosen }
+selected_lower cost k ms next less d h e = record { least = λ s l. e s l ∙ sym (add-zero (get_or next s 0)) ∙ h.least s l; chosen = h.chosen }
 
 pub tracks_start : (cost : ℕ → ℕ → ℕ) → Tracks cost 0 (set (replicate 64 2305) 0 0)
 unfolding metric
@@ -54,7 +54,7 @@ tracks_start cost = (0, each)
     each (suc s) h = rw (get_or-replicate {A = ℕ} 63 s 2305 0 (omega arith), eqb-suc-zero s)
 
 pub ran_none : (rate : Rate) (cs : List StepCosts) (ms ds : List ℕ) → Ran rate cs 0 ms ms ds
-ran_none rate cs ms ds = record { tracks = λ price n priced tracks. rw add_zero tracks; chose = λ price n priced tracks. below_none _ }
+ran_none rate cs ms ds = record { tracks = λ price n priced tracks. rw add-zero tracks; chose = λ price n priced tracks. below_none _ }
 
 pub ran_more : (rate : Rate) (cs : List StepCosts) (t : ℕ) (ms mid next ds : List ℕ) (less d : ℕ) → t < length cs → t < length ds → Ran rate cs t ms mid ds → Selected (window_cost rate (get_or cs t free)) less mid next d → Ran rate cs (t + 1) ms next (set ds t d)
 ran_more rate cs t ms mid next ds less d lc ld ran h =

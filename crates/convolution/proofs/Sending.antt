@@ -1,5 +1,5 @@
 -- The marks of a word that grows: what was sent stays, and the next marks come after it.
-use Rattle.std.proofs.Common.{◌≡◌, ℕ, zero, suc, ◌+◌, ◌*◌, ◌/◌, ◌%◌, ◌^◌, ◌<◌, ◌≤◌, Bool, List, [], ◌∷◌, ◌++◌, length, take, sym, refl, ap, ◌∙◌, subst, ap₂, add_zero, add-suc, add-one, arith}
+use Rattle.std.proofs.Common.{◌≡◌, ℕ, zero, suc, ◌+◌, ◌*◌, ◌/◌, ◌%◌, ◌^◌, ◌<◌, ◌≤◌, Bool, List, [], ◌∷◌, ◌++◌, length, take, sym, refl, ap, ◌∙◌, subst, ap₂, add-zero, add-suc, add-one, arith}
 use Rattle.std.proofs.lemmas.List.{append-nil, append_assoc, append_cancel_left, length-append, length_push}
 use Rattle.convolution.specs.declared.encoder.Encoder.{Encoder}
 use Rattle.convolution.specs.declared.rate.Rate.{Rate}
@@ -32,7 +32,7 @@ module _ (rate : Rate) (w m : Word) (ms ks : List ℕ) (marked : MarkBits rate (
 
   sent-rows : (n : ℕ) → n ≤ 8 → marks_to rate (w ++ m) (length w + n) ≡ sent rate w ++ rows ms ks n
   unfolding marks_to sent rows
-  sent-rows zero h = ap (marks_to rate (w ++ m)) (add_zero (length w)) ∙ marks_to-append rate w m (length w) (omega arith) ∙ sym (append-nil (sent rate w))
+  sent-rows zero h = ap (marks_to rate (w ++ m)) (add-zero (length w)) ∙ marks_to-append rate w m (length w) (omega arith) ∙ sym (append-nil (sent rate w))
   sent-rows (suc n) h =
       ap (marks_to rate (w ++ m)) (add-suc (length w) n) ∙ ap₂ ◌++◌ (sent-rows n (omega arith)) (step_picked n (omega arith)) ∙ append_assoc (sent rate w) (rows ms ks n) (picked ms ks n)
 

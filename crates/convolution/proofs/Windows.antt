@@ -1,5 +1,5 @@
 -- Words as numbers: the windows of a longer word from the six newest bits and the bits that follow.
-use Rattle.std.proofs.Common.{◌≡◌, ℕ, zero, suc, ◌+◌, ◌-◌, ◌*◌, ◌/◌, ◌%◌, ◌^◌, ◌<◌, Bool, true, false, eqb, [], ◌∷◌, ◌++◌, length, get_or, drop, sym, refl, ap, ◌∙◌, subst, ap₂, add_zero, mod-eq_of_lt, mul_assoc, pow_suc, div-one, one-add, arith}
+use Rattle.std.proofs.Common.{◌≡◌, ℕ, zero, suc, ◌+◌, ◌*◌, ◌/◌, ◌%◌, ◌^◌, ◌<◌, Bool, true, false, eqb, [], ◌∷◌, ◌++◌, length, get_or, drop, sym, refl, ap, ◌∙◌, subst, ap₂, add-zero, mod-eq_of_lt, mul_assoc, pow-suc, div-one, one-add, arith}
 use native.Mathlib.Nat.{pow-succ', zero-div}
 use mir.Val.{bool_byte}
 use Rattle.std.proofs.lemmas.Nat.{shr-shr}
@@ -22,7 +22,7 @@ value-front (b ∷ y) = refl
 value-at : (y : Word) (t s : ℕ) → t + 1 ≡ s → value (drop t y) ≡ bit (get_or y t false) + 2 * value (drop s y)
 value-at y t s e =
     value-front (drop t y)
-    ∙ ap₂ (λ (b : Bool) (z : Word). bit b + 2 * value z) (get_or-drop t y 0 false ∙ ap (λ (k : ℕ). get_or y k false) (add_zero t)) (drop-drop 1 t y ∙ ap (λ (k : ℕ). drop k y) e)
+    ∙ ap₂ (λ (b : Bool) (z : Word). bit b + 2 * value z) (get_or-drop t y 0 false ∙ ap (λ (k : ℕ). get_or y k false) (add-zero t)) (drop-drop 1 t y ∙ ap (λ (k : ℕ). drop k y) e)
 
 value-drop : (t : ℕ) (y : Word) → value (drop t y) ≡ value y / 2 ^ t
 unfolding value
@@ -35,7 +35,7 @@ value-drop (suc t) (b ∷ y) =
 value_below : (y : Word) → value y < 2 ^ length y
 unfolding value
 value_below [] = omega arith
-value_below (b ∷ y) = omega (arith, bit_below b, value_below y, pow_suc 2 (length y))
+value_below (b ∷ y) = omega (arith, bit_below b, value_below y, pow-suc 2 (length y))
 
 value-append : (y z : Word) → value (y ++ z) ≡ value y + 2 ^ length y * value z
 unfolding value

@@ -1,5 +1,5 @@
 -- Marks written one after another, the next over one that is not kept.
-use Rattle.std.proofs.Common.{◌≡◌, ℕ, zero, suc, ◌+◌, ◌/◌, ◌%◌, ◌^◌, ◌<◌, Bool, true, false, cond, List, [], ◌∷◌, ◌++◌, length, get_or, take, set, sym, refl, ap, ◌∙◌, add_zero, arith}
+use Rattle.std.proofs.Common.{◌≡◌, ℕ, zero, suc, ◌+◌, ◌/◌, ◌%◌, ◌^◌, ◌<◌, Bool, true, false, cond, List, [], ◌∷◌, ◌++◌, length, get_or, take, set, sym, refl, ap, ◌∙◌, add-zero, arith}
 use Rattle.std.proofs.lemmas.List.{append-nil, append_assoc, take-set, take_more_set}
 use Rattle.convolution.specs.declared.rate.Rate.{Rate}
 use Rattle.convolution.specs.declared.rate.Rate.TheVariants.{Half, TwoThirds, ThreeQuarters, Third}
@@ -7,7 +7,7 @@ use Rattle.convolution.specs.Code.{bit, keeps, kept_from, step_marks}
 use Rattle.convolution.specs.Encoding.{kept_bit, picked, MarkBits, KeptBits}
 
 pub take_put : (xs : List ℕ) (n k v : ℕ) → n < length xs → k < 2 → take (n + k) (set xs n v) ≡ take n xs ++ take k (v ∷ [])
-take_put xs n zero v h l = ap (λ (m : ℕ). take m (set xs n v)) (add_zero n) ∙ take-set xs n v ∙ sym (append-nil (take n xs))
+take_put xs n zero v h l = ap (λ (m : ℕ). take m (set xs n v)) (add-zero n) ∙ take-set xs n v ∙ sym (append-nil (take n xs))
 take_put xs n (suc zero) v h l = take_more_set xs n v h
 take_put xs n (suc (suc k)) v h l = absurd (omega arith)
 

@@ -1,7 +1,7 @@
 -- What a word costs against readings, and the word of least cost, by exhaustion.
-use Rattle.std.specs.Prelude.{◌≡◌, ℕ, zero, suc, ◌+◌, ◌<◌, Bool, true, false, cond, ◌⊎◌, List, [], ◌∷◌, ◌++◌, reverse, length, nat_lt}
+use Rattle.std.specs.Prelude.{◌≡◌, ℕ, zero, suc, ◌+◌, ◌<◌, true, false, cond, ◌⊎◌, List, [], ◌∷◌, ◌++◌, reverse, length, nat_lt}
 use Rattle.convolution.specs.declared.rate.Rate.{Rate}
-use Rattle.convolution.specs.Code.{Word, step_marks, marks, marks_before, window, fed}
+use Rattle.convolution.specs.Code.{Word, step_marks, marks, marks_before}
 
 -- `price i m` is what reading i, of the kept marks in their order, costs for the mark m
 

@@ -1,5 +1,5 @@
 // One step of the decoder on vectors of 32 lanes.
-ghost use Rattle.std.specs.Prelude.{◌≡◌, ℕ, ◌+◌, ◌-◌, ◌*◌, ◌%◌, ◌^◌, ◌<◌, ◌≤◌, not, ltb, ◌++◌, length, if◌then◌else◌, nat_eq, nat_lt, slice_index};
+ghost use Rattle.std.specs.Prelude.{◌≡◌, ℕ, ◌+◌, ◌-◌, ◌*◌, ◌%◌, ◌^◌, ◌<◌, ◌≤◌, not, ◌++◌, length, if◌then◌else◌, nat_eq, nat_lt, slice_index};
 ghost use Rattle.convolution.specs.Code.{bit, mark};
 ghost use Rattle.convolution.specs.Lanes.{Selected, Turns, Near, Masks};
 ghost use Rattle.convolution.specs.Trellis.{bit_of};
@@ -16,7 +16,7 @@ fn split(low: u16x32, high: u16x32) -> (u16x32, u16x32)
 
 // The sums of each pair of lanes.
 fn add(a: u16x32, b: u16x32) -> u16x32
-    requires { (((s : ℕ) → s < 32 → slice_index a s < 2 ^ 15)) × (((s : ℕ) → s < 32 → slice_index b s < 2 ^ 15)) }
+    requires { ((s : ℕ) → s < 32 → slice_index a s < 2 ^ 15) × ((s : ℕ) → s < 32 → slice_index b s < 2 ^ 15) }
     ensures { (s : ℕ) → s < 32 → slice_index result s ≡ slice_index a s + slice_index b s }
 {
     a.strict_add(b)
@@ -25,7 +25,7 @@ fn add(a: u16x32, b: u16x32) -> u16x32
 // The lesser of each pair of lanes, and a mask of those where it is the first.
 fn choose(a: u16x32, b: u16x32) -> (u16x32, u64)
     ensures long { length result.0 ≡ 32 }
-    ensures least { (s : ℕ) → s < 32 → slice_index result.0 s ≡ (if ltb (slice_index b s) (slice_index a s) then slice_index b s else slice_index a s) }
+    ensures least { (s : ℕ) → s < 32 → slice_index result.0 s ≡ (if nat_lt (slice_index b s) (slice_index a s) then slice_index b s else slice_index a s) }
     ensures kept { (s : ℕ) → s < 32 → bit_of result.1 s ≡ bit (not (nat_lt (slice_index b s) (slice_index a s))) }
     ensures below { result.1 < 2 ^ 32 }
 {
@@ -36,7 +36,7 @@ fn choose(a: u16x32, b: u16x32) -> (u16x32, u64)
 // The lesser of the two ways into every state, and which bit left on it: `same` and `other` have the costs of the windows.
 pub fn select(low: u16x32, high: u16x32, same: u16x32, other: u16x32) -> (u16x32, u16x32, u64)
     requires small { (s : ℕ) → s < 64 → slice_index (low ++ high) s < 2 ^ 15 }
-    requires few { (((s : ℕ) → s < 32 → slice_index same s < 2 ^ 15)) × (((s : ℕ) → s < 32 → slice_index other s < 2 ^ 15)) }
+    requires few { ((s : ℕ) → s < 32 → slice_index same s < 2 ^ 15) × ((s : ℕ) → s < 32 → slice_index other s < 2 ^ 15) }
     ensures { (cost : ℕ → ℕ) → Turns cost same other → Selected cost 0 (low ++ high) (result.0 ++ result.1) result.2 }
 {
     let (even, odd) = split(low, high);
@@ -72,8 +72,8 @@ fn lower(a: u16x32, k: u16) -> u16x32
 
 // Takes 8192 off all costs once the first is large.
 pub fn rebase(low: u16x32, high: u16x32) -> (u16x32, u16x32)
-    requires { (Near (low ++ high)) × (slice_index (low ++ high) 0 < 17000) }
-    ensures { (((k : ℕ) × ((s : ℕ) → s < 64 → slice_index (result.0 ++ result.1) s + k ≡ slice_index (low ++ high) s))) × (slice_index (result.0 ++ result.1) 0 < 2 ^ 14) }
+    requires { Near (low ++ high) × (slice_index (low ++ high) 0 < 17000) }
+    ensures { ((k : ℕ) × ((s : ℕ) → s < 64 → slice_index (result.0 ++ result.1) s + k ≡ slice_index (low ++ high) s)) × (slice_index (result.0 ++ result.1) 0 < 2 ^ 14) }
 {
     if low.to_array()[0] < 16384 {
         (low, high)

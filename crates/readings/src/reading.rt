@@ -67,8 +67,8 @@ impl Reading for i8 {
 
     // Its size for the mark that it leans away from.
     fn costs(&self) -> (u8, u8)
-        ensures result_value { (result.0 ≡ soft_cost self.now 0) × (result.1 ≡ soft_cost self.now 1) }
-        ensures result_value_2 { result.0 + result.1 ≡ unsigned_abs self.now }
+        ensures marks { (result.0 ≡ soft_cost self.now 0) × (result.1 ≡ soft_cost self.now 1) }
+        ensures size { result.0 + result.1 ≡ unsigned_abs self.now }
     {
         let size = self.unsigned_abs();
         if *self > 0 { (0, size) } else { (size, 0) }

@@ -35,7 +35,7 @@ invariant_of-result c =
     let last = c.rebase.result.0 ++ c.rebase.result.1 in
     let d = c.select-d.result.2 in
     let (k, lower) = c.rebase.ensures.0 in
-    (near_next cost below k ms last d c.args.metrics.near (selected_lower cost k ms next last d (c.select-d.ensures cost c.prices.ensures) lower), (c.rebase.ensures.1, tt))
+    record { near = near_next cost below k ms last d c.args.metrics.near (selected_lower cost k ms next last d (c.select-d.ensures cost c.prices.ensures) lower); small = c.rebase.ensures.1 }
 
 pub returns : goal.returns
 returns c =

@@ -8,7 +8,7 @@ use Rattle.permutation.proofs.arrange.place_run.Goals as goal
 
 -- the place that is written is one of the list
 write_below : (g : given.Over) (c : goal.After-place g) → c.place.result < length c.loop-k.to
-write_below g c = omega (arith, place_below _ (g.met.P.Arrange.permutes _) c.args.column c.loop-k.k c.requires.within (omega arith) c.place.ensures)
+write_below g c = omega (arith, place_below _ (g.met.P.Arrange.permutes _) c.args.column c.loop-k.k (omega arith) (omega arith) c.place.ensures)
 
 pub overflow_add-column : goal.overflow_add-column
 overflow_add-column g c = omega (arith, element_below (g.P.Arrange.meaning c.args.rule.now) {column = c.args.column + c.loop-k.k} refl c.requires.within (omega arith))

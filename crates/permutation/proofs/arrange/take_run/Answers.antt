@@ -7,7 +7,7 @@ use Rattle.permutation.proofs.arrange.take_run.Goals as goal
 
 -- the place that is read is one of the list
 read_below : (g : given.Over) (c : goal.After-place g) → c.place.result < length c.args.from.now
-read_below g c = omega (arith, place_below _ (g.met.P.Arrange.permutes _) c.args.column c.loop-k.k c.requires.within (omega arith) c.place.ensures)
+read_below g c = omega (arith, place_below _ (g.met.P.Arrange.permutes _) c.args.column c.loop-k.k (omega arith) (omega arith) c.place.ensures)
 
 pub overflow_add-column : goal.overflow_add-column
 overflow_add-column g c = omega (arith, element_below (g.P.Arrange.meaning c.args.rule.now) {column = c.args.column + c.loop-k.k} refl c.requires.within (omega arith))

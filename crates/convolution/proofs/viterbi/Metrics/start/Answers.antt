@@ -5,7 +5,7 @@ use Rattle.convolution.proofs.Spread.{near_start}
 use Rattle.convolution.proofs.viterbi.Metrics.start.Goals as goal
 
 pub invariant_of-result : goal.invariant_of-result
-invariant_of-result c = (near_start, (omega arith, tt))
+invariant_of-result c = record { near = near_start; small = omega arith }
 
 pub returns : goal.returns
 returns c = tracks_start

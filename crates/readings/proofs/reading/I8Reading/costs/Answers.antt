@@ -8,10 +8,10 @@ pub returns-then-self-gt0 : goal.returns-then-self-gt0
 returns-then-self-gt0 c =
     let f : SFits w8 c.args.self.now = search rules in
     let size : c.unsigned_abs-size.result ≡ nat_abs c.args.self.now = simp to_z-of_z at c.unsigned_abs-size.ensures.value in
-    (above_costs c.args.self.now c.unsigned_abs-size.result size c.unsigned_abs-size.ensures.bound (simp to_z-of_z at c.if-self-gt0.true), omega arith)
+    record { marks = above_costs c.args.self.now c.unsigned_abs-size.result size c.unsigned_abs-size.ensures.bound (simp to_z-of_z at c.if-self-gt0.true); size = omega arith }
 
 pub returns-else-self-gt0 : goal.returns-else-self-gt0
 returns-else-self-gt0 c =
     let f : SFits w8 c.args.self.now = search rules in
     let size : c.unsigned_abs-size.result ≡ nat_abs c.args.self.now = simp to_z-of_z at c.unsigned_abs-size.ensures.value in
-    (below_costs c.args.self.now c.unsigned_abs-size.result size c.unsigned_abs-size.ensures.bound (simp to_z-of_z at c.if-self-gt0.false), omega arith)
+    record { marks = below_costs c.args.self.now c.unsigned_abs-size.result size c.unsigned_abs-size.ensures.bound (simp to_z-of_z at c.if-self-gt0.false); size = omega arith }

@@ -1,5 +1,5 @@
 -- The table of the powers of 02 in field 1, and that of their exponents.
-use Rattle.std.proofs.Common.{◌≡◌, ℕ, zero, suc, ◌+◌, ◌*◌, ◌/◌, ◌%◌, ◌^◌, ◌<◌, Bool, true, ◌&&◌, eqb, List, [], ◌∷◌, get_or, sym, refl, ap, ◌∙◌, add_zero, add-suc, suc-add, zero_add, div-one, arith}
+use Rattle.std.proofs.Common.{◌≡◌, ℕ, zero, suc, ◌+◌, ◌*◌, ◌/◌, ◌%◌, ◌^◌, ◌<◌, Bool, true, ◌&&◌, eqb, List, [], ◌∷◌, get_or, sym, refl, ap, ◌∙◌, add-zero, add-suc, suc-add, zero-add, div-one, arith}
 use native.Mathlib.Nat.{div-div-eq-div-mul, pow-succ'}
 use Rattle.std.proofs.lemmas.Bool.{and_parts, eqb-true}
 use Rattle.galois.specs.Bytes.{power, Exponent}
@@ -43,7 +43,7 @@ counts p s (suc n) a k = eqb (s / 256 ^ a % 256) k && counts p s n (times_z p a)
 counts_at : (p s n a k i : ℕ) → counts p s n a k ≡ true → i < n → s / 256 ^ shifted p i a % 256 ≡ k + i
 unfolding counts shifted
 counts_at p s zero a k i t h = absurd (omega arith)
-counts_at p s (suc n) a k zero t h = eqb-true (s / 256 ^ a % 256) k (and_parts _ _ t).0 ∙ sym (add_zero k)
+counts_at p s (suc n) a k zero t h = eqb-true (s / 256 ^ a % 256) k (and_parts _ _ t).0 ∙ sym (add-zero k)
 counts_at p s (suc n) a k (suc i) t h =
     ap (λ b. s / 256 ^ b % 256) (shifted_swap p 1 i a) ∙ counts_at p s n (times_z p a) (suc k) i (and_parts _ _ t).1 (omega arith)
     ∙ suc-add k i ∙ sym (add-suc k i)
@@ -70,5 +70,5 @@ logarithms-at a h n =
     let (e, x) = rule_1.generated a h n in
     let s = exponents 0x1D 255 1 0 in
     let is : get_or (digits 256 s) a 0 ≡ e
-    = digits-at 256 s a h ∙ ap (λ b. s / 256 ^ b % 256) (sym (sym (power_shifted 0x1D primitive_1 e) ∙ x.value)) ∙ counts_at 0x1D s 255 1 0 e exponents-count x.small ∙ zero_add e in
+    = digits-at 256 s a h ∙ ap (λ b. s / 256 ^ b % 256) (sym (sym (power_shifted 0x1D primitive_1 e) ∙ x.value)) ∙ counts_at 0x1D s 255 1 0 e exponents-count x.small ∙ zero-add e in
     record { small = omega arith; value = ap (power field_1) is ∙ x.value }

@@ -1,7 +1,7 @@
 -- Products of equal factors, and the powers of 02, in any field of bytes.
 use Rattle.std.specs.Prelude.{◌≡◌, ℕ, zero, suc, ◌+◌, ◌-◌, ◌*◌, ◌/◌, ◌%◌, ◌<◌, ◌≤◌, ◌⊎◌}
 use Rattle.std.proofs.Math.Path.{refl, sym, ap, ap₂}
-use Rattle.std.proofs.Common.{◌∙◌, inl, inr, zero_add, suc-add, suc-mul}
+use Rattle.std.proofs.Common.{◌∙◌, inl, inr, zero-add, suc-add, suc-mul}
 use native.Mathlib.Omega.{arith}
 use Rattle.std.specs.Int.Bits.{xor_self}
 use Rattle.galois.specs.Bytes.{ByteField, FieldRule, raised, power}
@@ -50,7 +50,7 @@ module _ (f : ByteField) (rule : FieldRule f) where
   -- factors side by side
   raised_add : (a m n : ℕ) → a < 256 → raised f.mul a (m + n) ≡ f.mul (raised f.mul a m) (raised f.mul a n)
   unfolding raised
-  raised_add a zero n h = ap (raised f.mul a) (zero_add n) ∙ sym (raised_none a n h)
+  raised_add a zero n h = ap (raised f.mul a) (zero-add n) ∙ sym (raised_none a n h)
   raised_add a (suc m) n h =
       ap (raised f.mul a) (suc-add m n) ∙ ap (f.mul a) (raised_add a m n h)
       ∙ sym (rule.mul_assoc a (raised f.mul a m) (raised f.mul a n) h (raised_byte a m h) (raised_byte a n h))

@@ -1,8 +1,8 @@
 -- The bytes modulo a primitive polynomial are a field, and 02 generates it.
 use Rattle.std.specs.Prelude.{◌≡◌, ℕ, zero, suc, ◌+◌, ◌-◌, ◌*◌, ◌^◌, ◌<◌, ◌≤◌, ◌⊎◌, bit_xor}
 use Rattle.std.proofs.Math.Path.{refl, sym, ap, ap₂}
-use Rattle.std.proofs.Common.{◌∙◌, inl, inr, zero_mul, suc-mul, add_comm}
-use Rattle.std.proofs.Math.Nat.{mul_one, mul_comm}
+use Rattle.std.proofs.Common.{◌∙◌, inl, inr, zero-mul, suc-mul, add_comm}
+use Rattle.std.proofs.Math.Nat.{mul-one, mul_comm}
 use native.Mathlib.Omega.{arith}
 use Rattle.std.proofs.lemmas.Nat.{xor_lt}
 use Rattle.std.proofs.lemmas.Bool.{cases_lt, cases_eq, cases_order}
@@ -124,7 +124,7 @@ module _ (p : ℕ) (t : Primitive p) where
   -- the powers of a power of z
   raised-shifted : (n k : ℕ) → raised mul (shifted p n 1) k ≡ shifted p (k * n) 1
   unfolding raised shifted
-  raised-shifted n zero = ap (λ u. shifted p u 1) (sym (zero_mul n))
+  raised-shifted n zero = ap (λ u. shifted p u 1) (sym (zero-mul n))
   raised-shifted n (suc k) =
       ap (mul (shifted p n 1)) (raised-shifted n k) ∙ mul_shifted n (shifted p (k * n) 1) (power_z_small (k * n)) ∙ sym (shifted_add p n (k * n) 1)
       ∙ ap (λ u. shifted p u 1) (add_comm n (k * n) ∙ sym (suc-mul k n))
@@ -136,7 +136,7 @@ module _ (p : ℕ) (t : Primitive p) where
 
   pub power_shifted : (e : ℕ) → power (by_polynomial p) e ≡ shifted p e 1
   unfolding power mul
-  power_shifted e = ap (λ u. raised mul u e) (sym z_is_two) ∙ raised-shifted 1 e ∙ ap (λ u. shifted p u 1) (mul_one e)
+  power_shifted e = ap (λ u. raised mul u e) (sym z_is_two) ∙ raised-shifted 1 e ∙ ap (λ u. shifted p u 1) (mul-one e)
 
   inverse : (a : ℕ) → a < 256 → ¬ (a ≡ 0) → mul a (raised mul a 254) ≡ 1
   unfolding raised

@@ -1,6 +1,6 @@
 -- Sets of bytes as numbers: byte b is in the set if bit b is set.
 use Rattle.std.specs.Prelude.{◌≡◌, ℕ, zero, suc, ◌+◌, ◌-◌, ◌*◌, ◌/◌, ◌%◌, ◌^◌, ◌<◌, ◌≤◌, ◌⊎◌, bit_or}
-use Rattle.std.proofs.Common.{sym, ap, ◌∙◌, inl, inr, one_mul, pow_suc, arith, pow_pos, pow_add, shr-shr}
+use Rattle.std.proofs.Common.{sym, ap, ◌∙◌, inl, inr, one-mul, pow-suc, arith, pow_pos, pow-add, shr-shr}
 use Rattle.std.proofs.Math.Nat.{div-eq_of_lt}
 use Rattle.std.proofs.lemmas.Nat.{or_shr, or_mod, shl-shr}
 use Rattle.std.proofs.Math.Pow.{pow-lt, ones_split, ones_lt, high}
@@ -18,7 +18,7 @@ has_or s t b = ap (λ n. n % 2) (or_shr s t b) ∙ or_mod (s / 2 ^ b) (t / 2 ^ b
 
 has_same : (b : ℕ) → has (2 ^ b) b ≡ 1
 unfolding has
-has_same b = ap (λ n. n % 2) (ap (λ n. n / 2 ^ b) (sym (one_mul (2 ^ b))) ∙ shl-shr 1 b)
+has_same b = ap (λ n. n % 2) (ap (λ n. n / 2 ^ b) (sym (one-mul (2 ^ b))) ∙ shl-shr 1 b)
 
 has_only : (a b : ℕ) → has (2 ^ a) b ≡ 1 → a ≡ b
 unfolding has
@@ -31,7 +31,7 @@ has_only a b e = go (cases_order a b)
         let d = a - suc b in
         let sum : d + 1 + b ≡ a = omega arith in
         let whole : 2 ^ a / 2 ^ b ≡ 2 ^ d * 2
-        = ap (λ n. n / 2 ^ b) (ap (λ n. 2 ^ n) (sym sum) ∙ pow_add 2 (d + 1) b) ∙ shl-shr (2 ^ (d + 1)) b ∙ pow_add 2 d 1 in
+        = ap (λ n. n / 2 ^ b) (ap (λ n. 2 ^ n) (sym sum) ∙ pow-add 2 (d + 1) b) ∙ shl-shr (2 ^ (d + 1)) b ∙ pow-add 2 d 1 in
         absurd (omega arith)
 
 or_cases : (x y : ℕ) → x < 2 → y < 2 → bit_or x y ≡ 1 → (x ≡ 1) ⊎ (y ≡ 1)
@@ -95,5 +95,5 @@ has-from_two b l h =
     let all : suc j + c ≡ 254 = omega arith in
     let ones : (2 ^ 254 - 1) / 2 ^ c ≡ 2 ^ suc j - 1
     = ap (λ n. n / 2 ^ c) (ap (λ k. 2 ^ k - 1) (sym all) ∙ ones_split (suc j) c) ∙ high (2 ^ suc j - 1) c (ones_lt c) in
-    let odd : (2 ^ suc j - 1) % 2 ≡ 1 = omega (arith, pow_suc 2 j, pow_pos j) in
+    let odd : (2 ^ suc j - 1) % 2 ≡ 1 = omega (arith, pow-suc 2 j, pow_pos j) in
     ap (λ k. (2 ^ 256 - 4) / 2 ^ k % 2) (sym places) ∙ ap (λ n. n % 2) (sym (shr-shr (2 ^ 256 - 4) 2 c) ∙ ones) ∙ odd

@@ -1,5 +1,5 @@
 -- A byte as the sum of its bits.
-use Rattle.std.proofs.Common.{◌≡◌, ℕ, ◌+◌, ◌-◌, ◌*◌, ◌/◌, ◌%◌, ◌^◌, ◌<◌, ◌≤◌, cond, eqb, ◌⊎◌, List, sym, ap, ◌∙◌, inl, inr, mod-lt, add_comm, one_mul, zero_mul, arith, pow_pos, pow_add, ne_eqb}
+use Rattle.std.proofs.Common.{◌≡◌, ℕ, ◌+◌, ◌-◌, ◌*◌, ◌/◌, ◌%◌, ◌^◌, ◌<◌, ◌≤◌, cond, eqb, ◌⊎◌, List, sym, ap, ◌∙◌, inl, inr, mod-lt, add_comm, one-mul, zero-mul, arith, pow_pos, pow-add, ne_eqb}
 use native.Mathlib.Nat.{mod-one}
 use lib.Bits.{bit_xor, bit_and, xor_zero_r, xor_comm, xor_shifted, and_high}
 use Rattle.std.proofs.lemmas.Nat.{mod-pow-add, pow_below}
@@ -15,7 +15,7 @@ low v i l = lane v l % 2 ^ i
 -- one bit of a number, in its place
 and_bit : (b i : ℕ) → bit_and b (2 ^ i) ≡ b / 2 ^ i % 2 * 2 ^ i
 and_bit b i =
-    let alone : 2 ^ i ≡ 2 ^ (1 + i) - 2 ^ i = omega (arith, pow_add 2 1 i) in
+    let alone : 2 ^ i ≡ 2 ^ (1 + i) - 2 ^ i = omega (arith, pow-add 2 1 i) in
     ap (bit_and b) alone ∙ and_high b 1 i
 
 -- one bit more from below
@@ -40,12 +40,12 @@ mul_more f c b i rule hc hi = go (b / 2 ^ i % 2) (and_bit b i) (mod_more b i) (c
     go : (q : ℕ) → bit_and b (2 ^ i) ≡ q * 2 ^ i → b % 2 ^ (i + 1) ≡ bit_xor (q * 2 ^ i) r → (q < 1) ⊎ (1 ≤ q) → q < 2
         → f.mul c (b % 2 ^ (i + 1)) ≡ bit_xor (f.mul c r) (cond (eqb (bit_and b (2 ^ i)) 0) 0 (f.mul c (2 ^ i)))
     go q e d (inl l) h =
-        let none : q * 2 ^ i ≡ 0 = ap (λ n. n * 2 ^ i) (omega arith) ∙ zero_mul (2 ^ i) in
+        let none : q * 2 ^ i ≡ 0 = ap (λ n. n * 2 ^ i) (omega arith) ∙ zero-mul (2 ^ i) in
         ap (f.mul c) (d ∙ ap (λ n. bit_xor n r) none)
         ∙ sym (xor_zero_r (f.mul c r))
         ∙ sym (ap (λ n. bit_xor (f.mul c r) (cond (eqb n 0) 0 (f.mul c (2 ^ i)))) (e ∙ none))
     go q e d (inr l) h =
-        let once : q * 2 ^ i ≡ 2 ^ i = ap (λ n. n * 2 ^ i) (omega arith) ∙ one_mul (2 ^ i) in
+        let once : q * 2 ^ i ≡ 2 ^ i = ap (λ n. n * 2 ^ i) (omega arith) ∙ one-mul (2 ^ i) in
         ap (f.mul c) (d ∙ ap (λ n. bit_xor n r) once) ∙ rule.distrib c (2 ^ i) r hc there small ∙ xor_comm (f.mul c (2 ^ i)) (f.mul c r)
         ∙ sym (ap (λ t. bit_xor (f.mul c r) (cond t 0 (f.mul c (2 ^ i)))) (ap (λ n. eqb n 0) (e ∙ once) ∙ ne_eqb (2 ^ i) 0 (λ z. omega (arith, pow_pos i))))
 

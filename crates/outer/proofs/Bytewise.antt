@@ -1,5 +1,5 @@
 -- Bytes, lists of bytes, and the field's operations on them.
-use Rattle.std.proofs.Common.{◌≡◌, ℕ, zero, suc, ◌+◌, ◌-◌, ◌<◌, ◌≤◌, List, [], ◌∷◌, ◌++◌, take, drop, sym, ap, ◌∙◌, arith}
+use Rattle.std.proofs.Common.{◌≡◌, ℕ, zero, suc, ◌-◌, ◌<◌, ◌≤◌, List, [], ◌∷◌, ◌++◌, take, drop, sym, ap, ◌∙◌, arith}
 use lib.Bits.{bit_xor, xor_lt}
 use Rattle.galois.proofs.Lifts.{lift_only, lift_zero, lift_one, lift_mul}
 use Rattle.galois.specs.Bytes.{lift, ByteField, FieldRule, lifted, power, raised}

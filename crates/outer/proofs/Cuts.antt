@@ -1,5 +1,5 @@
 -- Polynomials cut by equations.
-use Rattle.std.proofs.Common.{◌≡◌, ℕ, zero, suc, ◌+◌, ◌-◌, ◌*◌, ◌%◌, ◌^◌, ◌<◌, ◌≤◌, ◌≢◌, ◌⊎◌, List, [], ◌∷◌, length, get_or, take, set, replicate, sym, refl, ap, ◌∙◌, subst, ap₂, inl, inr, add_zero, zero_add, arith, length-set, get_or-set_other, get_or-take, get_or-set_same, w8, Fits, below_more}
+use Rattle.std.proofs.Common.{◌≡◌, ℕ, zero, suc, ◌+◌, ◌-◌, ◌*◌, ◌%◌, ◌^◌, ◌<◌, ◌≤◌, ◌≢◌, ◌⊎◌, List, [], ◌∷◌, length, get_or, take, set, replicate, sym, refl, ap, ◌∙◌, subst, ap₂, inl, inr, add-zero, zero-add, arith, length-set, get_or-set_other, get_or-take, get_or-set_same, w8, Fits, below_more}
 use mathlib.Core.Path.{fun_ext}
 use lib.Bits.{bit_xor, xor_zero_r, xor_assoc, xor_comm, xor_self}
 use lib.Lanes.{Each1, fold_l}
@@ -75,7 +75,7 @@ module _ (f : ByteField) where
   fold_applied (x ∷ v) [] s j e h = absurd (omega arith)
   fold_applied (x ∷ v) (c ∷ p) s j e h =
       fold_from (bit_xor 0 x) v
-      ∙ ap₂ bit_xor (xor_comm 0 x ∙ xor_zero_r x ∙ h 0 (omega arith) ∙ ap (λ i. f.mul c (lane s i)) (add_zero j))
+      ∙ ap₂ bit_xor (xor_comm 0 x ∙ xor_zero_r x ∙ h 0 (omega arith) ∙ ap (λ i. f.mul c (lane s i)) (add-zero j))
       (fold_applied v p s (j + 1) (omega arith) (λ l m. let next : j + suc l ≡ j + 1 + l = omega arith in h (suc l) (omega arith) ∙ ap (λ i. f.mul (lane p l) (lane s i)) next))
 
   pub applied_small : FieldRule f → (p s : List ℕ) (j : ℕ) → Bytes p → Bytes s → applied f p s j < 256
@@ -123,7 +123,7 @@ module _ (f : ByteField) where
 
   -- the constants of the first lanes
   pub are_from_start : (s : List ℕ) (rows : List Row) → Are f (lane s) rows → Are f (from s 0) rows
-  are_from_start s rows are = subst (λ c. Are f c rows) (fun_ext (λ l. ap (lane s) (sym (zero_add l)))) are
+  are_from_start s rows are = subst (λ c. Are f c rows) (fun_ext (λ l. ap (lane s) (sym (zero-add l)))) are
 
   -- the constants of the next lanes
   pub moved_are : FieldRule f → (s : List ℕ) (j : ℕ) (rows others : List Row) → length s ≤ 32 → Are f (from s j) rows

@@ -1,5 +1,5 @@
 -- Polynomials over a field, and the moments of terms at places.
-use Rattle.std.proofs.Common.{◌≡◌, ℕ, zero, suc, ◌+◌, ◌*◌, ◌<◌, ◌≤◌, Bool, true, false, cond, not, List, [], ◌∷◌, length, filter, sym, refl, ap, ◌∙◌, ap₂, mul_comm as times-comm, suc-add as suc-plus, mul_zero as times_zero, zero_add as zero-plus, mul-suc as times-suc, arith}
+use Rattle.std.proofs.Common.{◌≡◌, ℕ, zero, suc, ◌+◌, ◌*◌, ◌<◌, ◌≤◌, Bool, true, false, cond, not, List, [], ◌∷◌, length, filter, sym, refl, ap, ◌∙◌, ap₂, mul_comm as times-comm, suc-add as suc-plus, mul-zero as times_zero, zero-add as zero-plus, mul-suc as times-suc, arith}
 use mathlib.Core.Path.{fun_ext}
 use native.Mathlib.Decide.{dec_le}
 use Rattle.std.specs.List.{AllByRecursion as All}

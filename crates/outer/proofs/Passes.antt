@@ -1,5 +1,5 @@
 -- The decoder's parts, computed on numbers, are those of the field.
-use Rattle.std.proofs.Common.{◌≡◌, ℕ, zero, suc, ◌+◌, ◌-◌, ◌*◌, ◌<◌, List, [], ◌∷◌, map, get_or, sym, refl, ap, ◌∙◌, ap₂, zero_add as zero-plus, add-one, arith}
+use Rattle.std.proofs.Common.{◌≡◌, ℕ, suc, ◌+◌, ◌-◌, ◌*◌, ◌<◌, List, [], ◌∷◌, map, get_or, sym, refl, ap, ◌∙◌, ap₂, zero-add as zero-plus, add-one, arith}
 use mathlib.Core.Path.{fun_ext}
 use Rattle.galois.proofs.Lifts.{lift_zero, lift_one, lift_xor, lift_mul, lift_inv}
 use Rattle.galois.specs.Bytes.{lift, ByteField, FieldRule, lifted, power}

@@ -1,5 +1,5 @@
 -- The terms of a polynomial at a place, and at the next.
-use Rattle.std.proofs.Common.{◌≡◌, ℕ, zero, suc, ◌+◌, ◌-◌, ◌*◌, ◌%◌, ◌<◌, ◌≤◌, Bool, true, false, cond, eqb, List, [], ◌∷◌, ◌++◌, length, get_or, take, filter, sym, refl, ap, ◌∙◌, subst, ap₂, add_zero, add-mul, one_mul, mul_zero, mul-add, arith, length-append}
+use Rattle.std.proofs.Common.{◌≡◌, ℕ, zero, suc, ◌+◌, ◌-◌, ◌*◌, ◌%◌, ◌<◌, ◌≤◌, Bool, true, false, cond, eqb, List, [], ◌∷◌, ◌++◌, length, get_or, take, filter, sym, refl, ap, ◌∙◌, subst, ap₂, add-zero, add-mul, one-mul, mul-zero, mul-add, arith, length-append}
 use lib.Bits.{bit_xor, xor_zero_r, xor_zero_l, xor_assoc}
 use lib.Lanes.{fold_l}
 use Rattle.std.specs.List.{range_with_len}
@@ -45,14 +45,14 @@ module _ (f : ByteField) (rule : FieldRule f) where
 
   pub power_none : (m : ℕ) → 1 ≡ power f (m * 0)
   unfolding power raised
-  power_none m = sym (ap (power f) (mul_zero m))
+  power_none m = sym (ap (power f) (mul-zero m))
 
   -- one power of 02 less: each term times the power 254 as often as its degree says
   pub term_halved : (cs : List ℕ) (m l : ℕ) → lane cs l < 256 → f.mul (power f (254 * l)) (term cs (m + 1) l) ≡ term cs m l
   term_halved cs m l h =
       let x = power f (254 * l) in
       let y = power f ((m + 1) * l) in
-      let exponent : (m + 1) * l ≡ m * l + l = add-mul m 1 l ∙ ap (λ k. m * l + k) (one_mul l) in
+      let exponent : (m + 1) * l ≡ m * l + l = add-mul m 1 l ∙ ap (λ k. m * l + k) (one-mul l) in
       let rounds : (254 * l + (m + 1) * l) % 255 ≡ m * l % 255 = ap (λ k. (254 * l + k) % 255) exponent ∙ omega arith in
       sym (rule.mul_assoc x y (lane cs l) (power_small f rule (254 * l)) (power_small f rule ((m + 1) * l)) h)
       ∙ ap (λ z. f.mul z (lane cs l))
@@ -73,7 +73,7 @@ module _ (f : ByteField) (rule : FieldRule f) where
       let hx : x < 256 = power_small f rule m in
       let hy : y < 256 = power_small f rule (m * j) in
       let hp : p < 256 = polynomial_small f rule cs x (λ i. hc (suc i)) hx in
-      let first : t ≡ f.mul y c = each 0 (omega arith) ∙ ap (λ k. f.mul (power f (m * k)) c) (add_zero j) in
+      let first : t ≡ f.mul y c = each 0 (omega arith) ∙ ap (λ k. f.mul (power f (m * k)) c) (add-zero j) in
       sum-from m (j + 1) (bit_xor a t) cs ts (λ i. hc (suc i)) (omega arith)
       (λ i h. let same : j + suc i ≡ j + 1 + i = omega arith in each (suc i) (omega arith) ∙ ap (λ k. f.mul (power f (m * k)) (get_or cs i 0)) same)
       ∙ xor_assoc a t (f.mul (power f (m * (j + 1))) p)

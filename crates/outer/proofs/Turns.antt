@@ -1,5 +1,5 @@
 -- One turn of a loop for each part of the decoder.
-use Rattle.std.proofs.Common.{◌≡◌, ℕ, ◌+◌, ◌<◌, Bool, cond, not, eqb, List, [], ◌∷◌, ◌++◌, length, get_or, take, drop, set, filter, sym, refl, ap, ◌∙◌, ap₂, add_assoc, add_comm, zero_add, arith}
+use Rattle.std.proofs.Common.{◌≡◌, ℕ, ◌+◌, ◌<◌, Bool, cond, not, eqb, List, [], ◌∷◌, ◌++◌, length, get_or, take, drop, set, filter, sym, refl, ap, ◌∙◌, ap₂, add_assoc, add_comm, zero-add, arith}
 use lib.Bits.{bit_xor}
 use Rattle.std.specs.List.{range_with_len}
 use Rattle.std.proofs.lemmas.List.FromFn.{map-range_with_len_more}
@@ -14,7 +14,7 @@ use Rattle.outer.proofs.Passes.{differences_small}
 -- the places below i + 1 that a test keeps
 pub kept_push : (t : ℕ → Bool) (i : ℕ) → filter t (range_with_len 0 (i + 1)) ≡ filter t (range_with_len 0 i) ++ cond (t i) (i ∷ []) []
 kept_push t i =
-    ap (filter t) (sym (map-id (range_with_len 0 (i + 1))) ∙ map-range_with_len_more (λ (p : ℕ). p) 0 i i (zero_add i) ∙ ap (λ l. l ++ i ∷ []) (map-id (range_with_len 0 i)))
+    ap (filter t) (sym (map-id (range_with_len 0 (i + 1))) ∙ map-range_with_len_more (λ (p : ℕ). p) 0 i i (zero-add i) ∙ ap (λ l. l ++ i ∷ []) (map-id (range_with_len 0 i)))
     ∙ filter-append t (range_with_len 0 i) (i ∷ [])
 
 pub others_push : (p q : ℕ) (zs : List ℕ) → ¬ (q ≡ p) → others p (zs ++ q ∷ []) ≡ others p zs ++ q ∷ []

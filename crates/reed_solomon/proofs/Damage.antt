@@ -1,5 +1,5 @@
 -- What Reed-Solomon on the block interleaver bears.
-use Rattle.std.proofs.Common.{◌≡◌, ℕ, zero, suc, ◌+◌, ◌-◌, ◌*◌, ◌/◌, ◌<◌, ◌≤◌, Bool, true, false, cond, eqb, ◌⊎◌, List, [], ◌∷◌, ◌++◌, length, get_or, take, drop, Some, None, Ok, Err, Option, Result, sym, refl, ap, ◌∙◌, subst, ap₂, inl, inr, le_of_eq, le_refl, add_zero, mod-lt, suc-mul, mul_comm, add-mul, mul-le-mul, zero_add, zero_mul, arith, length-append, length-drop, eq-eqb}
+use Rattle.std.proofs.Common.{◌≡◌, ℕ, zero, suc, ◌+◌, ◌-◌, ◌*◌, ◌/◌, ◌<◌, ◌≤◌, Bool, true, false, cond, eqb, ◌⊎◌, List, [], ◌∷◌, ◌++◌, length, get_or, take, drop, Some, None, Ok, Err, Option, sym, refl, ap, ◌∙◌, subst, ap₂, inl, inr, le_of_eq, le_refl, add-zero, mod-lt, suc-mul, mul_comm, add-mul, mul-le-mul, zero-add, zero-mul, arith, eq-eqb}
 use native.Mathlib.Nat.{div-add-mod}
 use native.Mathlib.Decide.{ℕ_discrete}
 use Rattle.std.proofs.lemmas.Bool.{cases_lt}
@@ -7,14 +7,13 @@ use Rattle.std.proofs.lemmas.List.{get_or_past, get_or-take, get_or-drop, take_a
 use Rattle.galois.specs.Bytes.{ByteField, FieldRule}
 use Rattle.outer.specs.Nearest.{Near, nearest}
 use Rattle.outer.specs.Words.{distance, encoded}
-use Rattle.outer.proofs.NearWords.{encoded_says, nearest_is, nearest_none, nearest_some}
-use Rattle.permutation.specs.Arrange.{arranged, restored}
+use Rattle.outer.proofs.NearWords.{encoded_says, nearest_is, nearest_some}
+use Rattle.permutation.specs.Arrange.{restored}
 use Rattle.permutation.specs.Transposed.{transposition}
 use Rattle.permutation.proofs.Permuting.{length-restored}
 use Rattle.permutation.proofs.Picking.{get_d_picked}
 use Rattle.permutation.proofs.Rows.{element_below}
 use Rattle.permutation.specs.Turning.{transposition_rearranges, turned-at}
-use Rattle.stack.specs.declared.fault.Fault.{Fault}
 use Rattle.stack.specs.declared.fault.Fault.TheVariants.{NoCodeWord}
 use Rattle.stack.specs.Buffers.{Bytes}
 use Rattle.stack.specs.Meaning.{Corrected, Received, CarrierMeaning, decoded, raised}
@@ -22,8 +21,8 @@ use Rattle.stack.specs.Rules.{Receives, CarrierRule}
 use Rattle.stages.specs.Interleaving.{interleaving}
 use Rattle.stages.specs.Moved.{byte_moves}
 use Rattle.reed_solomon.specs.Coding.{Limits, word, words_encoded, differing, with_word, then_word, words_decoded, coding}
-use Rattle.reed_solomon.specs.Bursts.{SameOutside, written, handed, HasNear, protected, Protected}
-use Rattle.reed_solomon.proofs.Coded.{word_end, length-word, bytes_word, take-word, length-encoded, length-words_encoded, word_of_encoded}
+use Rattle.reed_solomon.specs.Bursts.{SameOutside, protected, Protected}
+use Rattle.reed_solomon.specs.Coded.{word_end, length-word, bytes_word, take-word, length-words_encoded, word_of_encoded}
 
 -- lists that are the same outside m neighbouring places differ in at most m
 differ_few : (xs ys : List ℕ) (p m : ℕ) → SameOutside p m xs ys → distance xs ys ≤ m
@@ -55,7 +54,7 @@ distance_none ys = refl
 
 distance-append : (us vs xs ys : List ℕ) → length us ≡ length vs → distance (us ++ xs) (vs ++ ys) ≡ distance us vs + distance xs ys
 unfolding distance
-distance-append [] [] xs ys h = sym (zero_add (distance xs ys))
+distance-append [] [] xs ys h = sym (zero-add (distance xs ys))
 distance-append [] (v ∷ vs) xs ys h = absurd (omega arith)
 distance-append (u ∷ us) [] xs ys h = absurd (omega arith)
 distance-append (u ∷ us) (v ∷ vs) xs ys h =
@@ -139,7 +138,7 @@ module _ (f : ByteField) (rule : FieldRule f) (r words k e : ℕ) (limits : Limi
           → words_decoded f r k e w (restored (transposition words (k + 2 * e)) y)
           ≡ Ok (record { body = take (w * k) x; count = distance (words_encoded f r k e w x) (take (w * (k + 2 * e)) (restored (transposition words (k + 2 * e)) y)) })
       unfolding words_decoded words_encoded differing
-      words_return zero h = ap₂ (λ b m. Ok (record { body = b; count = m })) (sym (ap (λ i. take i x) (zero_mul k))) (sym (distance_none (take (0 * (k + 2 * e)) (restored (transposition words (k + 2 * e)) y))))
+      words_return zero h = ap₂ (λ b m. Ok (record { body = b; count = m })) (sym (ap (λ i. take i x) (zero-mul k))) (sym (distance_none (take (0 * (k + 2 * e)) (restored (transposition words (k + 2 * e)) y))))
       words_return (suc w) h =
           let n = k + 2 * e in
           let z = restored (transposition words n) y in
@@ -236,7 +235,7 @@ protects f field r words k e limits c rule meets = record {
       let every : take (words * (k + 2 * e)) z ≡ z = take_all (words * (k + 2 * e)) z (le_of_eq (length-handed f field r words k e limits g.body long)) in
       protected_got f r words k e c rs g q
       ∙ ap (decoded (record { symbols = g.counts.symbols; bytes = g.counts.bytes + 0 })) back
-      ∙ ap₂ (λ b m. Ok (record { body = b; counts = record { symbols = g.counts.symbols; bytes = m } })) all (ap₂ (λ m l. m + distance (words_encoded f r k e words x) l) (add_zero g.counts.bytes) every);
+      ∙ ap₂ (λ b m. Ok (record { body = b; counts = record { symbols = g.counts.symbols; bytes = m } })) all (ap₂ (λ m l. m + distance (words_encoded f r k e words x) l) (add-zero g.counts.bytes) every);
   gives = λ rs g h q near.
       let long : length g.body ≡ words * (k + 2 * e) = handed-length c rs g rule h q ∙ meets in
       elim (either_way f field r words k e limits g.body long words (le_refl words)) [

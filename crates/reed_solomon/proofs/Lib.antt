@@ -1,4 +1,3 @@
-pub mod Coded
 pub mod Damage
 pub mod Progress
 pub mod Judged

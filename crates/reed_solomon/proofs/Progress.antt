@@ -1,5 +1,5 @@
 -- What one word adds, on either way.
-use Rattle.std.proofs.Common.{◌≡◌, ℕ, zero, suc, ◌+◌, ◌-◌, ◌*◌, ◌<◌, ◌≤◌, List, ◌++◌, length, take, drop, Some, None, Ok, Err, sym, ap, ◌∙◌, subst, ap₂, append_assoc, le_of_eq, suc-mul, zero_add, add-one, arith, length-append}
+use Rattle.std.proofs.Common.{◌≡◌, ℕ, zero, suc, ◌+◌, ◌-◌, ◌*◌, ◌<◌, ◌≤◌, List, ◌++◌, length, take, drop, Some, None, Ok, Err, sym, ap, ◌∙◌, subst, ap₂, append_assoc, le_of_eq, suc-mul, zero-add, add-one, arith, length-append}
 use borrow.Rule.Slice.PartMut.{post_of, put_mid, drop_put}
 use Rattle.std.proofs.lemmas.List.{take_at, take_all, drop-drop, length-take-le}
 use Rattle.galois.specs.Bytes.{ByteField, FieldRule}
@@ -14,7 +14,7 @@ use Rattle.stack.specs.declared.fault.Fault.TheVariants.{NoCodeWord}
 use Rattle.stack.specs.Meaning.{Corrected}
 use Rattle.reed_solomon.specs.Coding.{Limits, word, words_encoded, words_decoded, differing, with_word, then_word}
 use Rattle.reed_solomon.specs.WordByWord.{GeneratorRows, Filled, Corrects}
-use Rattle.reed_solomon.proofs.Coded.{Answers, words_answer, small_product}
+use Rattle.reed_solomon.specs.Coded.{Answers, words_answer, small_product}
 
 -- one word more, as the code counts
 one_more : (w n : ℕ) → (w + 1) * n ≡ w * n + n
@@ -97,7 +97,7 @@ module _ (f : ByteField) (r k e : ℕ) where
   -- the first refusal is the answer of all words
   refused_stays : (w m : ℕ) (y : List ℕ) (g : Fault) → words_decoded f r k e w y ≡ Err g → words_decoded f r k e (m + w) y ≡ Err g
   unfolding words_decoded
-  refused_stays w zero y g q = ap (λ i. words_decoded f r k e i y) (zero_add w) ∙ q
+  refused_stays w zero y g q = ap (λ i. words_decoded f r k e i y) (zero-add w) ∙ q
   refused_stays w (suc m) y g q =
       let v = word (k + 2 * e) (m + w) y in
       let next : suc m + w ≡ suc (m + w) = omega arith in

@@ -1,5 +1,5 @@
 -- The Reed-Solomon stage: so many words, one after another.
-use Rattle.std.specs.Prelude.{◌≡◌, ℕ, zero, suc, ◌+◌, ◌*◌, ◌≤◌, List, [], ◌++◌, take, drop, Some, None, Ok, Err, Option, Result}
+use Rattle.std.specs.Prelude.{ℕ, zero, suc, ◌+◌, ◌*◌, ◌≤◌, List, [], ◌++◌, take, drop, Some, None, Ok, Err, Option, Result}
 use Rattle.galois.specs.Bytes.{ByteField}
 use Rattle.outer.specs.Words.{distance, encoded}
 use Rattle.outer.specs.Nearest.{nearest}

@@ -1,4 +1,5 @@
 pub mod Coding
+pub mod Coded
 pub mod Bursts
 pub mod WordByWord
 pub mod Protecting

@@ -2,7 +2,7 @@
 ghost use Rattle.std.specs.Prelude.{◌≡◌, ◌+◌, ◌*◌, ◌≤◌, length, MatchOption};
 ghost use Rattle.reed_solomon.specs.Coding.{Limits, coding, words_encoded, words_decoded};
 ghost use Rattle.reed_solomon.specs.WordByWord.{GeneratorRows, RootRows, Filled, WordRead, WordsRead};
-ghost use Rattle.std.proofs.Common.{rules, arith};
+ghost use Rattle.reed_solomon.specs.Coded.{coding_rule};
 
 use galois::field::Field;
 use outer::code::{correct_word, encode_word};
@@ -132,7 +132,9 @@ impl<F: Field> ReedSolomon<F> {
 impl<F: Field> Stage for ReedSolomon<F> {
     ghost meaning = { λ s. coding (F.Field.meaning s.field) s.root s.words s.length s.errors };
 
-    ghost rule = { first_of (Prim.search rules, Prim.grind (arith, Self.row.coded.inj)) };
+    ghost rule = { λ s.
+        coding_rule _ (F.Field.rule _) s.root s.words s.length s.errors
+        (record { root = s.root_high; words_low = s.words_low; words_high = s.words_high; data_low = s.data_low; errors_low = s.errors_low; errors_high = s.errors_high; room = s.room }) };
 
     fn upper(&self) -> usize {
         self.words * self.length

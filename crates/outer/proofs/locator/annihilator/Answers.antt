@@ -17,7 +17,7 @@ loop-j-preserved g c =
     let field = c.args.field.now in
     let f = g.F.Field.meaning field in
     let s = c.args.syndromes.now in
-    let j = c.loop-j.-j in (
+    let j = c.loop-j._j in (
       c.cut-n.ensures c.args.e s j (omega arith) c.fits-syndromes c.scales-scales.ensures c.loop-j.invariant.1 c.loop-j.invariant.0,
       c.next_lanes-equation.ensures f s j (g.met.F.Field.rule field) (omega arith) c.loop-j.invariant.1,
     )
@@ -28,5 +28,5 @@ cut-n-requires g c = omega (arith, c.loop-j.invariant.0.few)
 pub returns : goal.returns
 returns g c =
     let field = c.args.field.now in
-    cut_annihilates (g.F.Field.meaning field) (g.met.F.Field.rule field) c.args.e c.args.syndromes.now c.loop-j.-j c.loop-j.n c.loop-j.polynomials (omega arith) (omega arith)
+    cut_annihilates (g.F.Field.meaning field) (g.met.F.Field.rule field) c.args.e c.args.syndromes.now c.loop-j._j c.loop-j.n c.loop-j.polynomials (omega arith) (omega arith)
     c.fits-syndromes c.loop-j.invariant.0

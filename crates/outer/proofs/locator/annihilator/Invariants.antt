@@ -4,4 +4,4 @@ use Rattle.outer.specs.Cutting.{from, Cut}
 use Rattle.outer.proofs.locator.annihilator.Given as goal
 
 abbrev pub invariant-loop-j : goal.invariant-loop-j
-invariant-loop-j g l = Cut (g.F.Field.meaning l.field) l.e l.syndromes l.-j l.n l.polynomials × Are (g.F.Field.meaning l.field) (from l.syndromes l.-j) l.equation.rows
+invariant-loop-j g l = Cut (g.F.Field.meaning l.field) l.e l.syndromes l._j l.n l.polynomials × Are (g.F.Field.meaning l.field) (from l.syndromes l._j) l.equation.rows

@@ -1,10 +1,10 @@
 -- Every word is within its slice, and each turn reads one word more.
-use Rattle.std.proofs.Common.{◌≡◌, ◌+◌, ◌-◌, ◌*◌, ◌≤◌, length, take, None, Ok, sym, refl, ap, subst, zero_mul, arith}
+use Rattle.std.proofs.Common.{◌≡◌, ◌+◌, ◌-◌, ◌*◌, ◌≤◌, length, take, None, Ok, sym, refl, ap, subst, zero-mul, arith}
 use borrow.Rule.Slice.PartMut.{put_mid, mid_len}
 use Rattle.outer.specs.Nearest.{nearest}
 use Rattle.reed_solomon.specs.Coding.{words_decoded}
 use Rattle.reed_solomon.specs.WordByWord.{Corrects}
-use Rattle.reed_solomon.proofs.Coded.{word_end}
+use Rattle.reed_solomon.specs.Coded.{word_end}
 use Rattle.reed_solomon.proofs.Judged.{limits_of}
 use Rattle.reed_solomon.proofs.Progress.{part_word, drop-written, decoded_more, decoded_all, decoded_stops, count_small}
 use Rattle.reed_solomon.proofs.stage.ReedSolomon.decode_words.Given as given
@@ -12,7 +12,7 @@ use Rattle.reed_solomon.proofs.stage.ReedSolomon.decode_words.Goals as goal
 
 pub loop-w-init : goal.loop-w-init
 unfolding words_decoded
-loop-w-init g c = (ap (λ i. Ok (record { body = take i c.args.to.now; count = 0 })) (sym (zero_mul _)), refl)
+loop-w-init g c = (ap (λ i. Ok (record { body = take i c.args.to.now; count = 0 })) (sym (zero-mul _)), refl)
 
 pub slice_bounds-word-end : goal.slice_bounds-word-end
 slice_bounds-word-end g c = omega (arith, word_end c.loop-w.w c.args.self.now.words (c.args.self.now.length + 2 * c.args.self.now.errors) (omega arith))

@@ -1,15 +1,15 @@
 -- Every word is within its slice, and each turn makes one code word more.
-use Rattle.std.proofs.Common.{◌≡◌, ◌+◌, ◌-◌, ◌*◌, ◌≤◌, length, take, drop, ap, ◌∙◌, zero_mul, arith}
+use Rattle.std.proofs.Common.{◌≡◌, ◌+◌, ◌-◌, ◌*◌, ◌≤◌, length, take, drop, ap, ◌∙◌, zero-mul, arith}
 use borrow.Rule.Slice.PartMut.{mid_len}
 use Rattle.outer.specs.Words.{encoded}
 use Rattle.reed_solomon.specs.Coding.{words_encoded}
-use Rattle.reed_solomon.proofs.Coded.{word_end}
+use Rattle.reed_solomon.specs.Coded.{word_end}
 use Rattle.reed_solomon.proofs.Progress.{part_word, word_filled, encoded_more, encoded_all}
 use Rattle.reed_solomon.proofs.stage.ReedSolomon.encode_words.Goals as goal
 
 pub loop-w-init : goal.loop-w-init
 unfolding words_encoded
-loop-w-init g c = ap (λ i. take i c.args.to.now) (zero_mul _)
+loop-w-init g c = ap (λ i. take i c.args.to.now) (zero-mul _)
 
 pub slice_bounds-fill_word-end : goal.slice_bounds-fill_word-end
 slice_bounds-fill_word-end g c = omega (arith, word_end c.loop-w.w c.args.self.now.words c.args.self.now.length (omega arith))

@@ -5,7 +5,7 @@ use Rattle.std.proofs.lemmas.List.{length-take-le}
 use Rattle.stack.specs.Buffers.{padded}
 use Rattle.stack.specs.Bodies.{write_zeros}
 use Rattle.reed_solomon.specs.Coding.{words_encoded}
-use Rattle.reed_solomon.proofs.Coded.{length-words_encoded}
+use Rattle.reed_solomon.specs.Coded.{length-words_encoded}
 use Rattle.reed_solomon.proofs.stage.ReedSolomonStage.encode.Goals as goal
 
 pub returns : goal.returns

@@ -1,9 +1,9 @@
 -- The Reed-Solomon stage keeps the stage rule.
-use Rattle.std.proofs.Common.{◌≡◌, ℕ, zero, suc, ◌+◌, ◌*◌, ◌<◌, ◌≤◌, Bool, List, [], ◌∷◌, ◌++◌, length, get_or, take, drop, replicate, Some, None, Ok, Err, Option, Result, unwrap_or, sym, refl, ap, ◌∙◌, subst, ap₂, inl, le_of_eq, le_refl, suc-mul, mul-le-mul, suc-add, zero_add, zero_mul, arith, length-append, length-drop, length-take}
+use Rattle.std.proofs.Common.{◌≡◌, ℕ, zero, suc, ◌+◌, ◌*◌, ◌<◌, ◌≤◌, Bool, List, [], ◌∷◌, ◌++◌, length, take, drop, replicate, Some, None, Ok, Err, Option, Result, unwrap_or, sym, refl, ap, ◌∙◌, subst, ap₂, inl, le_of_eq, le_refl, suc-mul, mul-le-mul, suc-add, zero-add, zero-mul, arith, length-append, length-drop}
 use native.Mathlib.Nat.{one-le-mul}
 use native.Mathlib.Decide.{ℕ_discrete}
 use lib.ListN.{length-replicate}
-use Rattle.std.proofs.lemmas.List.{take_at, drop_at, take-append-le, drop-append-le, length-take-le, take-append-drop, drop-drop, append-nil, take_all}
+use Rattle.std.proofs.lemmas.List.{drop_at, take-append-le, drop-append-le, length-take-le, take_all}
 use Rattle.galois.specs.Bytes.{ByteField, FieldRule}
 use Rattle.outer.specs.ByteLists.{Bytes}
 use Rattle.outer.specs.Exhaustion.{first_list}
@@ -14,9 +14,8 @@ use Rattle.outer.proofs.Distances.{distance_itself}
 use Rattle.outer.proofs.Exhausted.{first_list_some}
 use Rattle.outer.proofs.NearWords.{encoded_says, nearest_some, nearest_itself}
 use Rattle.stack.specs.declared.fault.Fault.{Fault}
-use Rattle.stack.specs.declared.fault.Fault.TheVariants.{NoCodeWord}
 use Rattle.stack.specs.Faults.{Late, fault_number}
-use Rattle.stack.specs.Meaning.{Corrected, StageMeaning}
+use Rattle.stack.specs.Meaning.{Corrected}
 use Rattle.stack.specs.Rules.{Decodes, StageRule}
 use Rattle.reed_solomon.specs.Coding.{Limits, word, words_encoded, differing, with_word, then_word, words_decoded, coding}
 
@@ -33,7 +32,7 @@ take_none zero = refl
 take_none (suc n) = refl
 
 take_plus : (m n : ℕ) (xs : List ℕ) → take m xs ++ take n (drop m xs) ≡ take (m + n) xs
-take_plus zero n xs = ap (λ i. take i xs) (sym (zero_add n))
+take_plus zero n xs = ap (λ i. take i xs) (sym (zero-add n))
 take_plus (suc m) n [] = ap₂ ◌++◌ (take_none (suc m)) (take_none n) ∙ sym (take_none (suc m + n))
 take_plus (suc m) n (x ∷ xs) = ap (λ l. x ∷ l) (take_plus m n xs) ∙ ap (λ i. take i (x ∷ xs)) (sym (suc-add m n))
 
@@ -61,7 +60,7 @@ length-encoded f r c xs =
 module _ (f : ByteField) (r k e : ℕ) where
   pub length-words_encoded : (w : ℕ) (x : List ℕ) → w * k ≤ length x → length (words_encoded f r k e w x) ≡ w * (k + 2 * e)
   unfolding words_encoded
-  length-words_encoded zero x h = sym (zero_mul (k + 2 * e))
+  length-words_encoded zero x h = sym (zero-mul (k + 2 * e))
   length-words_encoded (suc w) x h =
       let room : w * k + k ≤ length x = subst (λ m. m ≤ length x) (more_words w k) h in
       length-append (words_encoded f r k e w x) (encoded f r (2 * e) (word k w x))
@@ -111,7 +110,7 @@ module _ (f : ByteField) (r k e : ℕ) where
     words_back : (words w : ℕ) (x : List ℕ) → w ≤ words → words * k ≤ length x → Bytes x
         → words_decoded f r k e w (words_encoded f r k e words x) ≡ Ok (record { body = take (w * k) x; count = 0 })
     unfolding words_decoded
-    words_back words zero x h long b = ap (λ l. Ok (record { body = l; count = 0 })) (sym (ap (λ n. take n x) (zero_mul k)))
+    words_back words zero x h long b = ap (λ l. Ok (record { body = l; count = 0 })) (sym (ap (λ n. take n x) (zero-mul k)))
     words_back words (suc w) x h long b =
         let y = word (k + 2 * e) w (words_encoded f r k e words x) in
         ap (then_word (with_word w (differing f r e y) (nearest f r k e y))) (words_back words w x (omega arith) long b)
@@ -137,7 +136,7 @@ module _ (f : ByteField) (r k e : ℕ) where
 
     pub words_answer : (words w : ℕ) (y : List ℕ) → w ≤ words → length y ≡ words * (k + 2 * e) → Answers w (words_decoded f r k e w y)
     unfolding words_decoded
-    words_answer words zero y h ly = (sym (zero_mul k), omega arith)
+    words_answer words zero y h ly = (sym (zero-mul k), omega arith)
     words_answer words (suc w) y h ly =
         then_answers w (word (k + 2 * e) w y) (words_decoded f r k e w y) (length-word (k + 2 * e) w y (omega (arith, word_end w words (k + 2 * e) h))) (words_answer words w y (omega arith) ly)
 

@@ -1,5 +1,5 @@
 -- The costs of a step, a slot for each generator.
-use Rattle.std.proofs.Common.{◌≡◌, ℕ, zero, suc, ◌+◌, ◌-◌, ◌%◌, ◌<◌, ◌≤◌, Bool, true, false, cond, not, ◌&&◌, eqb, ltb, List, [], ◌∷◌, ◌++◌, length, get_or, take, set, sym, refl, ap, ◌∙◌, subst, inl, inr, add_zero, add_assoc, zero_add, add-one, arith}
+use Rattle.std.proofs.Common.{◌≡◌, ℕ, zero, suc, ◌+◌, ◌-◌, ◌%◌, ◌<◌, ◌≤◌, Bool, true, false, cond, not, ◌&&◌, eqb, ltb, List, [], ◌∷◌, ◌++◌, length, get_or, take, set, sym, refl, ap, ◌∙◌, subst, inl, inr, add-zero, add_assoc, zero-add, add-one, arith}
 use Rattle.std.proofs.lemmas.List.{get_or_append_left, get_or-append_right, get_or-set_same, get_or-set_other, get_or-take, length-take-le}
 use Rattle.std.proofs.lemmas.Bool.{cases_lt}
 use Rattle.convolution.specs.declared.rate.Rate.{Rate}
@@ -76,10 +76,10 @@ has_second Third t = refl
 module _ (rate : Rate) (price : ℕ → ℕ → ℕ) (t i : ℕ) (at : i ≡ marks_before rate t) (a b c : Bool) (p : a ≡ has rate t 0) (q : b ≡ has rate t 1) (r : c ≡ has rate t 2) where
   slot_first : (m x : ℕ) → x ≡ cond a (price i m) 0 → x ≡ slot rate price t 0 m
   unfolding slot kept_before
-  slot_first m x e = e ∙ (λ j. cond (p j) (price (at j) m) 0) ∙ ap (λ n. cond (has rate t 0) (price n m) 0) (sym (add_zero (marks_before rate t)))
+  slot_first m x e = e ∙ (λ j. cond (p j) (price (at j) m) 0) ∙ ap (λ n. cond (has rate t 0) (price n m) 0) (sym (add-zero (marks_before rate t)))
 
   second_at : i + bit a ≡ marks_before rate t + (0 + bit (keeps rate t 0))
-  second_at = (λ j. at j + bit ((p ∙ has_first rate t) j)) ∙ ap (λ n. marks_before rate t + n) (sym (zero_add (bit (keeps rate t 0))))
+  second_at = (λ j. at j + bit ((p ∙ has_first rate t) j)) ∙ ap (λ n. marks_before rate t + n) (sym (zero-add (bit (keeps rate t 0))))
 
   slot_second : (m x : ℕ) → x ≡ cond b (price (i + bit a) m) 0 → x ≡ slot rate price t 1 m
   unfolding slot kept_before

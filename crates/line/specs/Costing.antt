@@ -1,6 +1,6 @@
 -- What readings cost: one of them, marks that all are free, and how many marks cost more than 0.
 use Rattle.std.specs.Prelude.{◌≡◌, ℕ, zero, suc, ◌+◌, ◌<◌, ◌≤◌, Bool, true, false, cond, List, [], ◌∷◌, ◌++◌, length, take, nat_lt, slice_index, slice_index_or, refl}
-use Rattle.std.proofs.Common.{sym, ap, ◌∙◌, add_zero, zero_add, add-suc, suc-add, add_assoc, arith}
+use Rattle.std.proofs.Common.{sym, ap, ◌∙◌, add-zero, zero-add, add-suc, suc-add, add_assoc, arith}
 use mir.Val.{bool_byte}
 use Rattle.std.proofs.lemmas.List.{length-take-le, take_more}
 use Rattle.std.proofs.lemmas.Bool.{cond_both}
@@ -28,7 +28,7 @@ dear_one_le p = cond_both (nat_lt 0 p) 1 0 (λ v. v ≤ 1) (λ _. omega arith) (
 
 pub dear-append : (price : ℕ → ℕ → ℕ) (i : ℕ) (xs ys : List ℕ) → dear price i (xs ++ ys) ≡ dear price i xs + dear price (i + length xs) ys
 unfolding dear
-dear-append price i [] ys = rw (add_zero, zero_add)
+dear-append price i [] ys = rw (add-zero, zero-add)
 dear-append price i (x ∷ xs) ys = rw (dear-append price (suc i) xs ys, add-suc i (length xs), ← suc-add i (length xs)) (sym (add_assoc (dear_one (price i x)) (dear price (suc i) xs) (dear price (suc i + length xs) ys)))
 
 pub dear_le : (price : ℕ → ℕ → ℕ) (i : ℕ) (ms : List ℕ) → dear price i ms ≤ length ms
@@ -52,7 +52,7 @@ dear_more price i ms k n p h e c =
 -- the marks of two runs
 pub dear_join : (price : ℕ → ℕ → ℕ) (xs ys zs : List ℕ) (i n r : ℕ) → i ≡ length xs → n ≡ dear price 0 xs → r ≡ dear price i ys → xs ++ ys ≡ zs → n + r ≡ dear price 0 zs
 dear_join price xs ys zs i n r at p q e =
-    let second : dear price i ys ≡ dear price (0 + length xs) ys = ap (λ j. dear price j ys) (at ∙ sym (zero_add (length xs))) in
+    let second : dear price i ys ≡ dear price (0 + length xs) ys = ap (λ j. dear price j ys) (at ∙ sym (zero-add (length xs))) in
     let all : dear price 0 zs ≡ dear price 0 xs + dear price (0 + length xs) ys = ap (dear price 0) (sym e) ∙ dear-append price 0 xs ys in
     omega arith
 
@@ -65,7 +65,7 @@ abbrev pub Free : (ℕ → ℕ → ℕ) → ℕ → List ℕ → Type 0
 Free price i ms = (k : ℕ) → k < length ms → price (i + k) (slice_index ms k) ≡ 0
 
 free_head : (price : ℕ → ℕ → ℕ) (i m : ℕ) (ms : List ℕ) → Free price i (m ∷ ms) → price i m ≡ 0
-free_head price i m ms h = ap (λ j. price j m) (sym (add_zero i)) ∙ h 0 (omega arith)
+free_head price i m ms h = ap (λ j. price j m) (sym (add-zero i)) ∙ h 0 (omega arith)
 
 free_tail : (price : ℕ → ℕ → ℕ) (i m : ℕ) (ms : List ℕ) → Free price i (m ∷ ms) → Free price (suc i) ms
 free_tail price i m ms h k l = let e : suc i + k ≡ i + suc k = omega arith in ap (λ j. price j (slice_index ms k)) e ∙ h (suc k) (omega arith)
@@ -83,7 +83,7 @@ dear-free price i (m ∷ ms) h = ap (λ p. dear_one p + dear price (suc i) ms) (
 pub free_cost : (price : ℕ → ℕ → ℕ) (i : ℕ) (ms : List ℕ) → cost_from price i ms ≡ 0 → Free price i ms
 unfolding cost_from
 free_cost price i [] e k l = absurd (omega arith)
-free_cost price i (m ∷ ms) e zero l = ap (λ j. price j m) (add_zero i) ∙ omega arith
+free_cost price i (m ∷ ms) e zero l = ap (λ j. price j m) (add-zero i) ∙ omega arith
 free_cost price i (m ∷ ms) e (suc k) l =
     let f : i + suc k ≡ suc i + k = omega arith in
     ap (λ j. price j (slice_index ms k)) f ∙ free_cost price (suc i) ms (omega arith) k (omega arith)

@@ -1,6 +1,6 @@
 -- The line keeps the carrier rule.
 use Rattle.std.specs.Prelude.{◌≡◌, ℕ, zero, suc, ◌+◌, ◌-◌, ◌*◌, ◌<◌, ◌≤◌, List, [], ◌∷◌, ◌++◌, map, length, take, drop, replicate, Ok, slice_index, refl}
-use Rattle.std.proofs.Common.{inl, inr, sym, ap₂, ◌∙◌, zero_add, arith}
+use Rattle.std.proofs.Common.{inl, inr, sym, ap₂, ◌∙◌, zero-add, arith}
 use Rattle.std.proofs.Math.Path.{ap}
 use Rattle.std.proofs.lemmas.List.{map-append, length-map, take-map, drop-map, get_or-map, get_or_append_left, ext_get_or}
 use Rattle.convolution.specs.declared.rate.Rate.{Rate}
@@ -30,7 +30,7 @@ picked-map g f (suc n) xs =
 -- marks that cost nothing where every other mark costs something are the marks that were sent
 marks-told : (price : ℕ → ℕ → ℕ) (xs ys : List ℕ) → length ys ≡ length xs → ((k : ℕ) → slice_index xs k < 2) → ((k : ℕ) → slice_index ys k < 2)
     → ((k : ℕ) → k < length xs → 1 ≤ price k (1 - slice_index xs k)) → Free price 0 ys → ys ≡ xs
-marks-told price xs ys l small little other free = ext_get_or 0 ys xs l (λ k h. same k h (slice_index xs k) (slice_index ys k) (small k) (little k) (other k (omega arith)) (ap (λ j. price j (slice_index ys k)) (sym (zero_add k)) ∙ free k h))
+marks-told price xs ys l small little other free = ext_get_or 0 ys xs l (λ k h. same k h (slice_index xs k) (slice_index ys k) (small k) (little k) (other k (omega arith)) (ap (λ j. price j (slice_index ys k)) (sym (zero-add k)) ∙ free k h))
   where
     same : (k : ℕ) → k < length ys → (x y : ℕ) → x < 2 → y < 2 → 1 ≤ price k (1 - x) → price k y ≡ 0 → y ≡ x
     same k h zero zero p q o e = refl
@@ -91,7 +91,7 @@ module _ {R : Type 0} (cost : R → ℕ → ℕ) (clean : ℕ → R) (clean_free
         ∙ ap (λ k. cost (clean k) v) (get_or_append_left ms (replicate (a * b - length ms) 0) 0 i h)
 
     free : Free price 0 (marks rate (all_bits x))
-    free k h = ap (λ j. price j (slice_index (marks rate (all_bits x)) k)) (zero_add k) ∙ price_clean k _ h ∙ clean_free _ (marks_small rate (all_bits x) k)
+    free k h = ap (λ j. price j (slice_index (marks rate (all_bits x)) k)) (zero-add k) ∙ price_clean k _ h ∙ clean_free _ (marks_small rate (all_bits x) k)
 
     other : (k : ℕ) → k < length (marks rate (all_bits x)) → 1 ≤ price k (1 - slice_index (marks rate (all_bits x)) k)
     other k h = rw (price_clean k (1 - slice_index (marks rate (all_bits x)) k) h) (clean-dear _ (marks_small rate (all_bits x) k))

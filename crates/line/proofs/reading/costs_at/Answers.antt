@@ -5,9 +5,9 @@ use Rattle.line.proofs.Spots.{price_spot}
 use Rattle.line.proofs.reading.costs_at.Given as given
 use Rattle.line.proofs.reading.costs_at.Goals as goal
 
-price : (g : given.Over) (c : goal.After-costs g) (m : ℕ) → g.row.R-Reading.cost c.index-readings-spot.result m ≡ prices g.row.R-Reading.cost c.args.rule.a c.args.rule.b c.args.readings.now c.args.i m
+price : (g : given.Over) (c : goal.After-costs g) (m : ℕ) → g.R.Reading.cost c.index-readings-spot.result m ≡ prices g.R.Reading.cost c.args.rule.a c.args.rule.b c.args.readings.now c.args.i m
 price g c m =
-    price_spot c.args.rule.a c.args.rule.b c.args.rule.tall c.args.rule.wide g.row.R-Reading.cost c.args.readings.now c.args.i c.spot.result m c.index-readings-spot.result c.requires.long c.requires.inside
+    price_spot c.args.rule.a c.args.rule.b c.args.rule.tall c.args.rule.wide g.R.Reading.cost c.args.readings.now c.args.i c.spot.result m c.index-readings-spot.result c.requires.long c.requires.inside
     c.spot.ensures.at c.index-readings-spot.is
 
 pub returns : goal.returns

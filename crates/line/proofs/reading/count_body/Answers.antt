@@ -11,7 +11,7 @@ pub loop-j-init : goal.loop-j-init
 unfolding dear
 loop-j-init g c =
     let none = sent-front_none c.new-encoder.result.rate c.args.body.now in
-    let price = prices g.row.R-Reading.cost c.args.rule.a c.args.rule.b c.args.readings.now in
+    let price = prices g.R.Reading.cost c.args.rule.a c.args.rule.b c.args.readings.now in
     (after_none c.args.body.now c.new-encoder.ensures, ap length (sym none), ap (dear price 0) (sym none), refl)
 
 pub count_marks-total-requires : goal.count_marks-total-requires
@@ -28,7 +28,7 @@ count_marks-total-requires g c =
 pub overflow_add-total : goal.overflow_add-total
 overflow_add-total g c =
     let size = c.args.rule.a * c.args.rule.b in
-    let price = prices g.row.R-Reading.cost c.args.rule.a c.args.rule.b c.args.readings.now in
+    let price = prices g.R.Reading.cost c.args.rule.a c.args.rule.b c.args.readings.now in
     let room = subst (λ r. marks_before r (8 * length c.args.body.now + 6) ≤ size) (sym c.new-encoder.ensures.same) c.requires.inside in
     let ran = c.byte-count.ensures.ran c.new-encoder.result.rate (front c.args.body.now c.loop-j.j) c.loop-j.invariant.0 in
     omega (
@@ -52,7 +52,7 @@ pub loop-j-preserved : goal.loop-j-preserved
 loop-j-preserved g c =
     let body = c.args.body.now in
     let rate = c.new-encoder.result.rate in
-    let price = prices g.row.R-Reading.cost c.args.rule.a c.args.rule.b c.args.readings.now in
+    let price = prices g.R.Reading.cost c.args.rule.a c.args.rule.b c.args.readings.now in
     let ran = c.byte-count.ensures.ran rate (front body c.loop-j.j) c.loop-j.invariant.0 in (
       after_more body c.loop-j.j c.loop-j-test.true ran,
       omega (arith, c.loop-j.invariant.1, byte_length body c.loop-j.j c.loop-j-test.true (omega arith) ran),
@@ -75,7 +75,7 @@ count_marks-requires g c =
 pub overflow_add-result : goal.overflow_add-result
 overflow_add-result g c =
     let size = c.args.rule.a * c.args.rule.b in
-    let price = prices g.row.R-Reading.cost c.args.rule.a c.args.rule.b c.args.readings.now in
+    let price = prices g.R.Reading.cost c.args.rule.a c.args.rule.b c.args.readings.now in
     let room = subst (λ r. marks_before r (8 * length c.args.body.now + 6) ≤ size) (sym c.new-encoder.ensures.same) c.requires.inside in
     let ran = c.tail-count.ensures.ran c.new-encoder.result.rate (front c.args.body.now c.loop-j.j) c.loop-j.invariant.0 in
     omega (
@@ -92,7 +92,7 @@ pub returns : goal.returns
 returns g c =
     let body = c.args.body.now in
     let rate = c.new-encoder.result.rate in
-    let price = prices g.row.R-Reading.cost c.args.rule.a c.args.rule.b c.args.readings.now in
+    let price = prices g.R.Reading.cost c.args.rule.a c.args.rule.b c.args.readings.now in
     let ran = c.tail-count.ensures.ran rate (front body c.loop-j.j) c.loop-j.invariant.0 in
     dear_join price (sent rate (front body c.loop-j.j)) (take (c.tail-count.result - 0) c.tail-count.new.marks) (marks c.args.rate (all_bits body)) c.loop-j.i c.loop-j.total c.count_marks.result c.loop-j.invariant.1
     c.loop-j.invariant.2 c.count_marks.ensures (sent_last body c.loop-j.j (omega arith) ran ∙ ap (λ r. marks r (all_bits body)) c.new-encoder.ensures.same)

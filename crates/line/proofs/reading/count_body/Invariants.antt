@@ -8,4 +8,4 @@ use Rattle.line.proofs.reading.count_body.Given as goal
 abbrev pub invariant-loop-j : goal.invariant-loop-j
 invariant-loop-j g l =
     After l.initial.encoder.rate (front l.body l.j) l.encoder × (l.i ≡ length (sent l.initial.encoder.rate (front l.body l.j)))
-    × (l.total ≡ dear (prices g.row.R-Reading.cost l.rule.a l.rule.b l.readings) 0 (sent l.initial.encoder.rate (front l.body l.j))) × (length l.marks ≡ 24)
+    × (l.total ≡ dear (prices g.R.Reading.cost l.rule.a l.rule.b l.readings) 0 (sent l.initial.encoder.rate (front l.body l.j))) × (length l.marks ≡ 24)

@@ -33,7 +33,7 @@ pub loop-done-preserved : goal.loop-done-preserved
 loop-done-preserved g c =
     let n = c.min-count.result in
     let done = c.loop-done.done in
-    let cost = step_cost c.args.rate (prices g.row.R-Reading.cost c.args.rule.a c.args.rule.b c.args.readings.now) in
+    let cost = step_cost c.args.rate (prices g.R.Reading.cost c.args.rule.a c.args.rule.b c.args.readings.now) in
     let few : n ≤ 64 = omega (arith, c.min-count.ensures) in
     let fits : done + n ≤ length c.loop-done.decisions = omega (arith, c.min-count.ensures, c.loop-done.invariant.0) in
     let long : length (take (n - 0) c.loop-done.costs) ≡ n = length-take-le (n - 0) c.loop-done.costs (omega (arith, c.loop-done.invariant.4)) ∙ omega arith in
@@ -49,6 +49,6 @@ loop-done-preserved g c =
 
 pub returns : goal.returns
 returns g c = record {
-  small = price_le g.row.R-Reading.cost 128 g.met.R.Reading.bounded (restored (helix c.args.rule.a c.args.rule.b) c.args.readings.now);
+  small = price_le g.R.Reading.cost 128 g.met.R.Reading.bounded (restored (helix c.args.rule.a c.args.rule.b) c.args.readings.now);
   chose = λ t l. c.loop-done.invariant.3 t (omega arith);
 }

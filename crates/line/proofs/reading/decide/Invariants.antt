@@ -9,8 +9,8 @@ use Rattle.line.proofs.reading.decide.Given as goal
 abbrev pub invariant-loop-done : goal.invariant-loop-done
 invariant-loop-done g l =
     (l.done ≤ length l.decisions) × (l.i ≡ marks_before l.rate l.done)
-    × Tracks (step_cost l.rate (prices g.row.R-Reading.cost l.rule.a l.rule.b l.readings)) l.done (l.metrics.low ++ l.metrics.high)
-    × ((t : ℕ) → t < l.done → Chose (step_cost l.rate (prices g.row.R-Reading.cost l.rule.a l.rule.b l.readings)) t (get_or l.decisions t 0)) × (length l.costs ≡ 64)
+    × Tracks (step_cost l.rate (prices g.R.Reading.cost l.rule.a l.rule.b l.readings)) l.done (l.metrics.low ++ l.metrics.high)
+    × ((t : ℕ) → t < l.done → Chose (step_cost l.rate (prices g.R.Reading.cost l.rule.a l.rule.b l.readings)) t (get_or l.decisions t 0)) × (length l.costs ≡ 64)
 
 abbrev pub decreases-loop-done : goal.decreases-loop-done
 decreases-loop-done g l = length l.initial.decisions - l.done

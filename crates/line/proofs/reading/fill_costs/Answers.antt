@@ -21,7 +21,7 @@ pub loop-k-preserved : goal.loop-k-preserved
 loop-k-preserved g c =
     let k = c.loop-k.k in
     let cost = c.step_costs-after.result.0 in
-    let price = prices g.row.R-Reading.cost c.args.rule.a c.args.rule.b c.args.readings.now in (
+    let price = prices g.R.Reading.cost c.args.rule.a c.args.rule.b c.args.readings.now in (
       c.step_costs-after.ensures.next ∙ ap (marks_before c.args.rate) (add_assoc c.args.from k 1),
       each_set (λ j x. Prices c.args.rate price (c.args.from + j) x) c.loop-k.costs k cost free (omega arith) c.loop-k.invariant.1 c.step_costs-after.ensures.priced,
       each_set (λ j x. Small x) c.loop-k.costs k cost free (omega arith) c.loop-k.invariant.2 c.step_costs-after.ensures.small,

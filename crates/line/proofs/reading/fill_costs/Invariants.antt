@@ -7,5 +7,5 @@ use Rattle.line.proofs.reading.fill_costs.Given as goal
 
 abbrev pub invariant-loop-k : goal.invariant-loop-k
 invariant-loop-k g l =
-    (l.next ≡ marks_before l.rate (l.from + l.k)) × ((j : ℕ) → j < l.k → Prices l.rate (prices g.row.R-Reading.cost l.rule.a l.rule.b l.readings) (l.from + j) (get_or l.costs j free))
+    (l.next ≡ marks_before l.rate (l.from + l.k)) × ((j : ℕ) → j < l.k → Prices l.rate (prices g.R.Reading.cost l.rule.a l.rule.b l.readings) (l.from + j) (get_or l.costs j free))
     × ((j : ℕ) → j < l.k → Small (get_or l.costs j free))

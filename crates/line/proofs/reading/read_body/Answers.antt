@@ -6,5 +6,5 @@ use Rattle.line.proofs.reading.read_body.Goals as goal
 
 pub returns : goal.returns
 returns g c =
-    let price = prices g.row.R-Reading.cost c.args.rule.a c.args.rule.b c.args.readings.now in
+    let price = prices g.R.Reading.cost c.args.rule.a c.args.rule.b c.args.readings.now in
     chosen-from-least c.args.rate price (length c.args.body.now) c.traceback.new.body c.count_body.result (omega arith) (c.traceback.ensures.found c.args.rate price c.decide.ensures) c.count_body.ensures

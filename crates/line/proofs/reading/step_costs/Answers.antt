@@ -25,7 +25,7 @@ returns g c =
     let e1 = c.slot_costs-z1.ensures in
     let e2 = c.slot_costs-z2.ensures in
     let k = λ (n : ℕ). get_or c.kept.result n false in
-    let price = prices g.row.R-Reading.cost c.args.rule.a c.args.rule.b c.args.readings.now in
+    let price = prices g.R.Reading.cost c.args.rule.a c.args.rule.b c.args.readings.now in
     record {
       priced =
           step_priced c.args.rate price c.args.step c.args.i c.requires.at (k 0) (k 1) (k 2) (c.kept.ensures 0 (omega arith)) (c.kept.ensures 1 (omega arith)) (c.kept.ensures 2 (omega arith)) _ _ _ _ _ _ _ _ e0.next e1.next

@@ -9,7 +9,7 @@ use Rattle.line.proofs.line.LineCarrier.receive.Goals as goal
 pub returns : goal.returns
 returns g c = λ _.
     let self = c.args.self.now in
-    let price = prices g.row.R-Reading.cost self.helical.a self.helical.b c.args.readings.now in
+    let price = prices g.R.Reading.cost self.helical.a self.helical.b c.args.readings.now in
     let front : length (take (self.length - 0) c.clear.new.buffer) ≡ self.length - 0 = length-take-le (self.length - 0) c.clear.new.buffer (omega (arith, c.requires)) in
     let x = c.read_body-symbols.new.body in
     let b = c.clear.new.buffer in

@@ -1,9 +1,9 @@
 -- Numbers that are within their limits, as facts.
-use Rattle.std.proofs.Common.{◌≡◌, ℕ, ◌+◌, ◌-◌, ◌*◌, ◌≤◌, Bool, true, false, cond, ◌&&◌, eqb, leb, List, [], ◌∷◌, ◌++◌, Some, None, Option, sym, refl, ap, ◌∙◌, mul-le-mul, mul-add, arith}
-use Rattle.std.proofs.lemmas.Bool.{and_parts, eqb-true, leb-true}
+use Rattle.std.proofs.Common.{◌≡◌, ℕ, ◌+◌, ◌-◌, ◌*◌, ◌≤◌, Bool, true, false, cond, ◌&&◌, eqb, leb, List, [], ◌∷◌, ◌++◌, Some, None, sym, refl, ap, ◌∙◌, mul-le-mul, mul-add, arith}
+use Rattle.std.proofs.lemmas.Bool.{and_parts, leb-true}
 use Rattle.limits.specs.declared.numbers.PlanNumbers.{PlanNumbers}
 use Rattle.limits.specs.declared.numbers.PlanNumber.{PlanNumber}
-use Rattle.limits.specs.Limits.{Limit, on_bare, air_length, limits, code_limits, stage_limits, carrier_limits, first_wrong, first_out, within, all_hold, word_length, body_length, data_length, coded_length, mark_count, between}
+use Rattle.limits.specs.Limits.{Limit, on_bare, air_length, limits, code_limits, stage_limits, carrier_limits, first_wrong, first_out, within, all_hold, body_length, data_length, coded_length, mark_count, between}
 
 -- the limits of the outer code
 pub record CodeWithin (p : PlanNumbers) : Type 0 where

@@ -1,5 +1,5 @@
 -- The elements of a list at given places: how many they are, and what they are.
-use Rattle.std.proofs.Common.{◌≡◌, ℕ, zero, suc, ◌<◌, List, [], ◌∷◌, ◌++◌, length, get_or, take, drop, sym, refl, ap, ◌∙◌, ⊎_elim, arith}
+use Rattle.std.proofs.Common.{◌≡◌, ℕ, zero, suc, ◌<◌, List, [], ◌∷◌, ◌++◌, length, get_or, take, sym, refl, ap, ◌∙◌, ⊎_elim, arith}
 use Rattle.std.proofs.lemmas.List.{drop_more, length-append, length-take, length-drop, get_or_push, get_or_append_left, get_or_past, same_lists}
 use Rattle.std.proofs.lemmas.Bool.{cases_lt}
 use Rattle.permutation.specs.Arrange.{picked, Taken}

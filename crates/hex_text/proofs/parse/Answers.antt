@@ -2,7 +2,6 @@
 use Rattle.std.proofs.lemmas.Result.{MatchResult-weaker}
 use Rattle.std.proofs.Common.{vec_items}
 use Rattle.hex_text.specs.declared.HexError.TheVariants.{NotADigit}
-use Rattle.hex_text.specs.Parsing.{Because}
 use Rattle.hex_text.proofs.Saying.{says_once, refused_memory}
 use Rattle.hex_text.proofs.parse.Goals as goal
 

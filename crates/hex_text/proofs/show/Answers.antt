@@ -1,8 +1,7 @@
 -- One byte more, and at the end all of them, which the text then says.
-use Rattle.std.proofs.Common.{◌≡◌, string_bytes, refl, ap, ◌∙◌, arith}
-use mathlib.Core.Path.{subst⁻¹}
+use Rattle.std.proofs.Common.{◌≡◌, string_bytes, ap, ◌∙◌}
 use Rattle.std.proofs.lemmas.List.{take_all}
-use Rattle.hex_text.specs.Digits.{written, Says}
+use Rattle.hex_text.specs.Digits.{written}
 use Rattle.hex_text.proofs.Saying.{written_more, written_says}
 use Rattle.hex_text.proofs.show.Goals as goal
 

@@ -1,5 +1,4 @@
-use Rattle.std.proofs.Common.{◌≡◌, Some, None, sym, ◌∙◌}
-use Rattle.limits.specs.Limits.{first_wrong, code_limits, stage_limits}
+use Rattle.std.proofs.Common.{sym, ◌∙◌}
 use Rattle.limits.proofs.Within.{first_by_code, first_by_stages, first_by_carrier}
 use Rattle.limits.proofs.judge.first_wrong.Goals as goal
 

@@ -1,5 +1,5 @@
 -- Each element's place is in the list, and one more element is taken from its place.
-use Rattle.std.proofs.Common.{◌+◌, ◌*◌, ◌<◌, length, refl, arith, rules}
+use Rattle.std.proofs.Common.{◌+◌, ◌<◌, length, refl, arith, rules}
 use Rattle.permutation.proofs.Rows.{element_below}
 use Rattle.permutation.proofs.Runs.{place_below, taken_in_row}
 use Rattle.permutation.proofs.arrange.take_run.Given as given

@@ -1,6 +1,6 @@
 -- Marks and readings at the places of the helical rule.
-use Rattle.std.proofs.Common.{◌≡◌, ℕ, ◌+◌, ◌-◌, ◌*◌, ◌/◌, ◌%◌, ◌<◌, ◌≤◌, ◌≢◌, List, [], ◌∷◌, ◌++◌, length, get_or, take, set, replicate, sym, refl, ap, ◌∙◌, inl, inr, div-add-mod', arith}
-use Rattle.std.proofs.lemmas.List.{append-nil, append_assoc, length-append, length-set, length-take-le, length-replicate, get_or-set_same, get_or-set_other, get_or-replicate, take_more, take_all}
+use Rattle.std.proofs.Common.{◌≡◌, ℕ, ◌+◌, ◌*◌, ◌<◌, ◌≤◌, ◌≢◌, List, [], ◌∷◌, ◌++◌, length, get_or, take, set, replicate, sym, refl, ap, ◌∙◌, inl, inr, arith}
+use Rattle.std.proofs.lemmas.List.{append_assoc, length-append, length-set, length-take-le, length-replicate, get_or-set_same, get_or-set_other, get_or-replicate, take_more}
 use Rattle.std.proofs.lemmas.Bool.{cases_eq}
 use Rattle.permutation.specs.Arrange.{Arrangement, size, Rearranges, Placed, arranged, restored}
 use Rattle.permutation.proofs.Picking.{get_d_picked}

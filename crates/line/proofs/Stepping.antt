@@ -4,7 +4,6 @@ use Rattle.std.proofs.lemmas.List.{get_or_append_left, get_or-append_right, get_
 use Rattle.std.proofs.lemmas.Bool.{cases_lt}
 use Rattle.convolution.specs.declared.rate.Rate.{Rate}
 use Rattle.convolution.specs.declared.rate.Rate.TheVariants.{Half, TwoThirds, ThreeQuarters, Third}
-use Rattle.convolution.specs.declared.viterbi.StepCosts.{StepCosts}
 use Rattle.convolution.specs.Code.{bit, generators, keeps, kept_from, step_marks, marks_before}
 use Rattle.convolution.specs.Slots.{Prices, Small, kept_before, slot}
 

@@ -1,5 +1,5 @@
 -- The line keeps the carrier rule.
-use Rattle.std.specs.Prelude.{◌≡◌, ℕ, zero, suc, ◌+◌, ◌-◌, ◌*◌, ◌<◌, ◌≤◌, List, [], ◌∷◌, ◌++◌, map, length, take, drop, replicate, Ok, slice_index, refl}
+use Rattle.std.specs.Prelude.{◌≡◌, ℕ, zero, suc, ◌+◌, ◌-◌, ◌*◌, ◌<◌, ◌≤◌, List, ◌++◌, map, length, take, drop, replicate, Ok, slice_index, refl}
 use Rattle.std.proofs.Common.{inl, inr, sym, ap₂, ◌∙◌, zero-add, arith}
 use Rattle.std.proofs.Math.Path.{ap}
 use Rattle.std.proofs.lemmas.List.{map-append, length-map, take-map, drop-map, get_or-map, get_or_append_left, ext_get_or}
@@ -10,7 +10,7 @@ use Rattle.convolution.proofs.Body.{length-all_bits, marks_small}
 use Rattle.convolution.proofs.Distinct.{marks_one_to_one}
 use Rattle.convolution.proofs.InTime.{least_first}
 use Rattle.convolution.proofs.Pattern.{length-marks, steps_marks}
-use Rattle.permutation.specs.Arrange.{Arrangement, size, picked, arranged, restored}
+use Rattle.permutation.specs.Arrange.{picked, restored}
 use Rattle.permutation.proofs.Permuting.{length-arranged, restored-arranged}
 use Rattle.readings.specs.Helix.{helix}
 use Rattle.readings.specs.Winding.{helix_rearranges}

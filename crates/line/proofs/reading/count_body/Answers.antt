@@ -1,5 +1,5 @@
 -- The marks of one byte more, and of the tail, are counted.
-use Rattle.std.proofs.Common.{◌≡◌, ◌+◌, ◌-◌, ◌*◌, ◌≤◌, length, take, sym, refl, ap, ◌∙◌, subst, arith}
+use Rattle.std.proofs.Common.{◌+◌, ◌-◌, ◌*◌, ◌≤◌, length, take, sym, refl, ap, ◌∙◌, subst, arith}
 use Rattle.convolution.specs.Code.{all_bits, marks, marks_before}
 use Rattle.convolution.specs.Encoding.{sent}
 use Rattle.line.specs.Line.{dear, prices}

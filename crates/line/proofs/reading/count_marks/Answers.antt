@@ -1,5 +1,5 @@
 -- One mark more is counted.
-use Rattle.std.proofs.Common.{◌≡◌, ◌+◌, ◌<◌, ltb, get_or, sym, refl, ap, ◌∙◌, arith}
+use Rattle.std.proofs.Common.{◌≡◌, ℕ, ◌+◌, ◌<◌, ltb, get_or, refl, ap, ◌∙◌, arith}
 use Rattle.std.proofs.lemmas.List.{take_all}
 use Rattle.line.specs.Line.{dear, prices}
 use Rattle.line.specs.Costing.{dear_more, bool_le}
@@ -11,6 +11,9 @@ pub loop-k-init : goal.loop-k-init
 unfolding dear
 loop-k-init g c = (omega arith, refl)
 
+told : (price : ℕ → ℕ) (cost r n m : ℕ) → cost ≡ r → r ≡ price n → n ≡ m → cost ≡ price m
+told price cost r n m p q e = p ∙ q ∙ ap price e
+
 -- the cost that is looked at is the mark's
 price_is : (g : given.Over) (c : goal.Joined-marks-k-eq0 g) → c.if-marks-k-eq0.cost ≡ prices g.R.Reading.cost c.args.rule.a c.args.rule.b c.args.readings.now (c.args.i + c.loop-k.k) (get_or c.args.marks.now c.loop-k.k 0)
 price_is g c =
@@ -18,8 +21,8 @@ price_is g c =
     let m = get_or c.args.marks.now c.loop-k.k 0 in
     let small : m < 2 = c.requires.marks c.loop-k.k in
     elim c.if-marks-k-eq0.branch [
-      | then-marks-k-eq0 w ↦ let is : 0 ≡ m = omega (arith, w.if-marks-k-eq0.true) in w.cost-is ∙ c.costs_at-zero.ensures.zero ∙ ap price is
-      | else-marks-k-eq0 w ↦ let no = w.if-marks-k-eq0.false in let is : 1 ≡ m = omega arith in w.cost-is ∙ c.costs_at-zero.ensures.one ∙ ap price is
+      | then-marks-k-eq0 w ↦ let is : 0 ≡ m = omega (arith, w.if-marks-k-eq0.true) in told price _ _ 0 m w.cost-is c.costs_at-zero.ensures.zero is
+      | else-marks-k-eq0 w ↦ let no = w.if-marks-k-eq0.false in let is : 1 ≡ m = omega arith in told price _ _ 1 m w.cost-is c.costs_at-zero.ensures.one is
     ]
 
 pub loop-k-preserved : goal.loop-k-preserved

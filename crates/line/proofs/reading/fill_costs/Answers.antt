@@ -1,5 +1,5 @@
 -- The costs of one step more.
-use Rattle.std.proofs.Common.{◌≡◌, ◌+◌, ◌*◌, ◌≤◌, length, sym, ap, ◌∙◌, subst, add_assoc, arith}
+use Rattle.std.proofs.Common.{◌+◌, length, ap, ◌∙◌, add_assoc, arith}
 use Rattle.convolution.specs.Code.{marks_before}
 use Rattle.convolution.specs.Slots.{Prices, Small, free}
 use Rattle.convolution.proofs.Pattern.{marks_before_mono, steps_marks}

@@ -1,5 +1,5 @@
 -- The steps that were run are right for the readings.
-use Rattle.std.proofs.Common.{◌≡◌, ap, ◌∙◌, arith}
+use Rattle.std.proofs.Common.{arith}
 use Rattle.line.proofs.Choosing.{went_from_ran}
 use Rattle.line.proofs.reading.run_steps.Goals as goal
 

@@ -1,7 +1,7 @@
 -- The marks of one byte more, and of the tail, stand at their places.
-use Rattle.std.proofs.Common.{◌≡◌, ◌+◌, ◌-◌, ◌*◌, ◌≤◌, [], ◌++◌, length, take, sym, refl, ap, ◌∙◌, subst, arith}
-use Rattle.convolution.specs.Code.{Word, all_bits, marks, marks_before}
-use Rattle.convolution.specs.Encoding.{Ran, sent}
+use Rattle.std.proofs.Common.{◌+◌, ◌*◌, ◌≤◌, length, sym, refl, ap, ◌∙◌, subst, arith}
+use Rattle.convolution.specs.Code.{all_bits, marks, marks_before}
+use Rattle.convolution.specs.Encoding.{sent}
 use Rattle.stack.specs.Buffers.{zeros}
 use Rattle.line.specs.Line.{spread, block}
 use Rattle.line.proofs.Running.{front, sent-front_none, after_none, after_more, sent_more, byte_length, byte_room, tail_room, sent_last, run_length}

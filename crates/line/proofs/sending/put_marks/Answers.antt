@@ -1,5 +1,5 @@
 -- One mark more stands at its place.
-use Rattle.std.proofs.Common.{◌≡◌, ℕ, List, ◌++◌, length, take, sym, ap, ◌∙◌, arith}
+use Rattle.std.proofs.Common.{ℕ, List, ◌++◌, sym, ap, ◌∙◌, arith}
 use Rattle.std.proofs.lemmas.List.{append-nil, take_all}
 use Rattle.line.specs.Line.{spread}
 use Rattle.line.proofs.Spots.{spread_more}

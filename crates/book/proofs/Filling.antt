@@ -1,6 +1,6 @@
 -- Lists that are filled element by element.
 use Rattle.std.proofs.Common.{◌≡◌, ℕ, zero, suc, ◌+◌, ◌*◌, ◌<◌, ◌≤◌, Bool, true, false, cond, eqb, leb, List, [], ◌∷◌, ◌++◌, map, length, get_or, take, drop, set, ℤ, pos, Some, None, Option, sym, refl, ap, ◌∙◌, subst, le_of_suc-le-suc, add-suc, suc-add, mul-suc, add-one, arith, drop_of_length-le, take_all, drop-cons, take-suc, take-suc-set, w16, to_z}
-use mathlib.Core.List.{map-append}
+use Rattle.std.proofs.lemmas.List.{map-append}
 use Rattle.std.proofs.lemmas.Bool.{le-leb, lt-leb}
 use Rattle.book.specs.Running.{mark_of, first_over, samples}
 

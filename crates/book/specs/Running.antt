@@ -1,7 +1,6 @@
 -- What becomes of the entries of a book, each by the meaning of its plan.
 use Rattle.std.specs.Prelude.{◌≡◌, ℕ, zero, suc, ◌+◌, ◌*◌, ◌<◌, ◌≤◌, Bool, true, false, cond, ◌⊎◌, List, [], ◌∷◌, ◌++◌, map, length, take, drop, replicate, ℤ, pos, Some, None, Ok, Err, Option, Result, MatchOption, ◌==◌, nat_le, slice_index_or}
-use Rattle.std.proofs.Common.{to_z}
-use Rattle.std.specs.Int.{w8, w16}
+use Rattle.std.specs.Int.{w8, w16, cast_signed}
 use Rattle.limits.specs.declared.numbers.PlanNumbers.{PlanNumbers}
 use Rattle.plan.specs.Calls.{plan_sent}
 use Rattle.limits.specs.Limits.{body_length}
@@ -63,13 +62,13 @@ read_marks p unit bs (Some i) = refused (body_length p) (Mark i)
 
 -- signed bytes, in two's complement
 abbrev pub signed : ℕ → ℤ
-signed b = to_z w8 b
+signed b = cast_signed w8 b
 
 -- samples of 16 bits, the high byte first; a byte left over is none
 unfoldable pub samples : List ℕ → List ℤ
 samples [] = []
 samples (high ∷ []) = []
-samples (high ∷ low ∷ bs) = to_z w16 (high * 256 + low) ∷ samples bs
+samples (high ∷ low ∷ bs) = cast_signed w16 (high * 256 + low) ∷ samples bs
 
 -- soft readings are read
 abbrev pub read_soft : PlanNumbers → ℕ → List ℤ → Outcome

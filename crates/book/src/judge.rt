@@ -1,7 +1,7 @@
 // Judging a book before its first entry is run.
 ghost use Rattle.std.specs.Prelude.{◌≡◌, ◌+◌, ◌*◌, ◌<◌, ◌≤◌, Bool, true, ◌&&◌, length, if◌then◌else◌, Some, None, MatchResult};
 ghost use Rattle.limits.specs.Limits.{on_bare, air_length};
-ghost use Rattle.book.specs.Contents.{line_at, count as entry-count, contents_end};
+ghost use Rattle.book.specs.Contents.{line_at, count as entry_count, contents_end};
 ghost use Rattle.book.specs.Jobs.{JobOf};
 ghost use Rattle.book.specs.Judging.{allowed, asked, lent_enough, kind_needs, and_needs, needs_before, entry_wrong, parts_wrong, file_wrong, Covered, OtherWidth};
 
@@ -144,7 +144,7 @@ impl Needs {
 
 // Judges every entry and the end of the last, and says how long the buffers must be.
 fn judge_parts(file: &[u8], count: usize) -> Result<Needs, BookFault>
-    requires { (count ≡ entry-count file.now) × ((count ≤ 32) × (contents_end file.now ≤ length file.now)) }
+    requires { (count ≡ entry_count file.now) × ((count ≤ 32) × (contents_end file.now ≤ length file.now)) }
     ensures { MatchResult result (λ n. (parts_wrong file.now ≡ None) × (n ≡ needs_before file.now count)) (λ w. parts_wrong file.now ≡ Some w) }
 {
     let mut start = 2 + 6 * count;
@@ -170,7 +170,7 @@ fn judge_parts(file: &[u8], count: usize) -> Result<Needs, BookFault>
 
 // Judges a file: how many entries it has and what they need, or what is wrong with it.
 pub fn judge_file(file: &[u8]) -> Result<(usize, Needs), BookFault>
-    ensures judged { MatchResult result (λ p. (file_wrong file.now ≡ None) × (p.0 ≡ entry-count file.now) × (p.1 ≡ needs_before file.now (entry-count file.now))) (λ w. file_wrong file.now ≡ Some w) }
+    ensures judged { MatchResult result (λ p. (file_wrong file.now ≡ None) × (p.0 ≡ entry_count file.now) × (p.1 ≡ needs_before file.now (entry_count file.now))) (λ w. file_wrong file.now ≡ Some w) }
     ensures covered { file_wrong file.now ≡ None → Covered file.now }
     ensures other_width { OtherWidth file.now }
 {

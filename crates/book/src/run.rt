@@ -6,7 +6,7 @@ ghost use Rattle.limits.specs.Limits.{air_length, on_bare, step_count};
 ghost use Rattle.plan.specs.Stacks.{bare_plan, line_plan};
 ghost use Rattle.stack.specs.Buffers.{zeros, padded};
 ghost use Rattle.readings.specs.Samples.{soft_of};
-ghost use Rattle.book.specs.Contents.{count as entry-count};
+ghost use Rattle.book.specs.Contents.{count as entry_count};
 ghost use Rattle.book.specs.Judging.{Enough, file_wrong, needs_before, result_length};
 ghost use Rattle.book.specs.Running.{Idle, Reached, Recorded, BookRun, TwoRefusals, outcome, results_before, record_at, refusal_of, counts_of, read, read_marks, read_soft, first_over, mark_of, signed, samples};
 ghost use Rattle.book.specs.Handing.{Fit, Done, OnlyLate, Answered, part_after, first_after, ReadEntry};
@@ -327,8 +327,8 @@ fn run_entry(
     soft: &mut [i8],
     results: &mut [u8],
 ) -> Entry
-    requires right { (file_wrong file.now ≡ None) × (e < entry-count file.now) }
-    requires room { (Enough (needs_before file.now (entry-count file.now)) (length first.old) (length second.old) (length steps.old) (length hard.old) (length soft.old)) × ((needs_before file.now (entry-count file.now)).results ≤ length results.old) }
+    requires right { (file_wrong file.now ≡ None) × (e < entry_count file.now) }
+    requires room { (Enough (needs_before file.now (entry_count file.now)) (length first.old) (length second.old) (length steps.old) (length hard.old) (length soft.old)) × ((needs_before file.now (entry_count file.now)).results ≤ length results.old) }
     requires reached { Reached file.now e start place results.old }
     requires idle { Idle first.old second.old steps.old hard.old soft.old }
     ensures record { result ≡ record_at file.now e }
@@ -358,11 +358,11 @@ fn run_entries(
     results: &mut [u8],
     records: &mut [Entry],
 )
-    requires right { (file_wrong file.now ≡ None) × (count ≡ entry-count file.now) }
-    requires room { (Enough (needs_before file.now (entry-count file.now)) (length first.old) (length second.old) (length steps.old) (length hard.old) (length soft.old)) × (((needs_before file.now (entry-count file.now)).results ≤ length results.old) × (count ≤ length records.old)) }
+    requires right { (file_wrong file.now ≡ None) × (count ≡ entry_count file.now) }
+    requires room { (Enough (needs_before file.now (entry_count file.now)) (length first.old) (length second.old) (length steps.old) (length hard.old) (length soft.old)) × (((needs_before file.now (entry_count file.now)).results ≤ length results.old) × (count ≤ length records.old)) }
     requires idle { (Idle first.old second.old steps.old hard.old soft.old) × (results.old ≡ zeros (length results.old)) }
-    ensures records { Recorded file.now (entry-count file.now) records.old records.new }
-    ensures results { results.new ≡ padded (length results.old) (results_before file.now (entry-count file.now)) }
+    ensures records { Recorded file.now (entry_count file.now) records.old records.new }
+    ensures results { results.new ≡ padded (length results.old) (results_before file.now (entry_count file.now)) }
     ensures idle { Idle first.new second.new steps.new hard.new soft.new }
 {
     let mut start = 2 + 6 * count;

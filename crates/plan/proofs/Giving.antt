@@ -1,6 +1,6 @@
 -- What a plan's stack gives has the plan's lengths.
 use Rattle.std.proofs.Common.{◌≡◌, ℕ, ◌+◌, ◌-◌, ◌*◌, ◌<◌, ◌≤◌, Bool, true, false, cond, eqb, List, [], ◌∷◌, ◌++◌, map, length, IfOk, Ok, Err, Result, sym, refl, ap, ◌∙◌, subst, arith}
-use mathlib.Core.List.{length-map}
+use Rattle.std.proofs.lemmas.List.{length-map}
 use Rattle.line.specs.Line.{lining}
 use Rattle.line.specs.Lined.{lining_rule}
 use Rattle.std.proofs.lemmas.Result.{MatchResult-weaker}

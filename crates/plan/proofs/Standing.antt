@@ -5,7 +5,7 @@ use Rattle.galois.specs.Bytes.{ByteField, FieldRule}
 use Rattle.galois.specs.Polynomials.{field_1, field_2}
 use Rattle.galois.specs.Rules.{rule_1, rule_2}
 use Rattle.reed_solomon.specs.Coding.{Limits, coding}
-use Rattle.reed_solomon.proofs.Coded.{coding_rule}
+use Rattle.reed_solomon.specs.Coded.{coding_rule}
 use Rattle.stack.specs.Meaning.{StageMeaning, CarrierMeaning, stacked, Meets}
 use Rattle.stack.specs.Optional.{with_stage, MeetsIfAny}
 use Rattle.stack.specs.Rules.{StageRule, CarrierRule}

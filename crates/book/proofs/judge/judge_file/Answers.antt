@@ -19,7 +19,7 @@ returns-then-file-count c = record { judged = by_contents _ (grind (arith, nat_t
 
 pub returns-in_err-needs : goal.returns-in_err-needs
 returns-in_err-needs c =
-    let p = err_from_is_err_and c.from-residual.result c.from-residual.ensures.1 in
+    let p = err_from_is_err_and c.from_residual.result c.from_residual.ensures.1 in
     record {
       judged = rw (p.1, p.2) (by_parts _ (grind (arith, nat_tests)) c.if-file-ne6.false (grind (arith, nat_tests)) (grind (arith, nat_tests)) ∙ c.in_err-needs.ensures);
       covered = covered _;

@@ -14,7 +14,7 @@ loop-e-init c =
 
 pub returns-in_err-job : goal.returns-in_err-job
 returns-in_err-job c =
-    let p = err_from_is_err_and c.from-residual.result c.from-residual.ensures.1 in
+    let p = err_from_is_err_and c.from_residual.result c.from_residual.ensures.1 in
     rw (p.1, p.2)
     (parts_by_entry c.args.file.now _
     (stays_wrong c.args.file.now c.loop-e.e _ _

@@ -12,10 +12,10 @@ use Rattle.book.proofs.run.run_book.Goals as goal
 
 pub returns-in_err-count : goal.returns-in_err-count
 returns-in_err-count c =
-    let p = err_from_is_err_and c.from-residual.result c.from-residual.ensures.1 in
+    let p = err_from_is_err_and c.from_residual.result c.from_residual.ensures.1 in
     record {
       ran =
-          book_refused c.args.file.now c.args.records.now c.args.results.now c.args.first.now c.args.second.now c.args.steps.now c.args.hard.now c.args.soft.now c.in_err-count.field-0.0 c.from-residual.result (p.1 ∙ ap (λ (w : BookFault). Err w) p.2)
+          book_refused c.args.file.now c.args.records.now c.args.results.now c.args.first.now c.args.second.now c.args.steps.now c.args.hard.now c.args.soft.now c.in_err-count.field-0.0 c.from_residual.result (p.1 ∙ ap (λ (w : BookFault). Err w) p.2)
           (wrong_file c.args.file.now _ _ _ _ _ _ _ _ c.in_err-count.ensures.judged);
       late = only_two c.args.file.now;
     }

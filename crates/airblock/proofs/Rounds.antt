@@ -1,7 +1,6 @@
 -- What a carrier sends comes back.
 use Rattle.std.proofs.Common.{◌≡◌, ℕ, ◌≤◌, List, length, take, Ok, Err, Result, sym, refl, ap, ◌∙◌, arith}
-use lib.ListN.{length-replicate}
-use Rattle.std.proofs.lemmas.List.{length-take-le, places}
+use Rattle.std.proofs.lemmas.List.{length-replicate, length-take-le, places}
 use Rattle.stack.specs.declared.corrections.Corrections.{Corrections}
 use Rattle.stack.specs.declared.fault.Misfit.{Misfit}
 use Rattle.stack.specs.declared.fault.Refusal.{Refusal}

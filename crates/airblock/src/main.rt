@@ -11,6 +11,7 @@ use stack::buffer::load;
 use stack::carrier::Carrier;
 use stack::corrections::Corrections;
 use stack::fault::Refusal;
+use std::process::ExitCode;
 
 // The body that the first line of the input says.
 fn read_body(rt: &HostRuntime) -> anyhow::Result<Vec<u8>> {
@@ -104,10 +105,11 @@ fn run(rt: &HostRuntime) -> anyhow::Result<()> {
 }
 
 // Runs, and says on standard error what is wrong with the input.
-fn main(rt: HostRuntime) -> anyhow::Result<()> {
-    let outcome = run(&rt);
-    if let Err(fault) = &outcome {
-        eprintln!(rt; "airblock: {fault}")?;
+fn main(rt: HostRuntime) -> ExitCode {
+    if let Err(fault) = run(&rt) {
+        // Where not even that can be said, the status says it.
+        let _ = eprintln!(rt; "airblock: {fault}");
+        return ExitCode::FAILURE;
     }
-    outcome
+    ExitCode::SUCCESS
 }

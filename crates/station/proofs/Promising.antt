@@ -2,7 +2,7 @@
 use Rattle.std.proofs.Common.{◌≡◌, ℕ, ◌+◌, ◌*◌, ◌≤◌, mul-le-mul, arith}
 use Rattle.galois.specs.Bytes.{ByteField, FieldRule}
 use Rattle.reed_solomon.specs.Coding.{Limits}
-use Rattle.reed_solomon.proofs.Coded.{coding_rule}
+use Rattle.reed_solomon.specs.Coded.{coding_rule}
 use Rattle.reed_solomon.proofs.Damage.{protects}
 use Rattle.stack.specs.Meaning.{CarrierMeaning}
 use Rattle.stack.specs.Rules.{CarrierRule}

@@ -7,6 +7,7 @@ use book::run::run_book;
 use plan::listed::listed_plan;
 use stack::corrections::Corrections;
 use std::io::Read;
+use std::process::ExitCode;
 
 // A book of this size is too long, so no more is read.
 const ENOUGH: usize = 60_001;
@@ -141,10 +142,11 @@ fn run(rt: &HostRuntime) -> anyhow::Result<()> {
 }
 
 // Runs, and says on standard error what went wrong with reading or printing.
-fn main(rt: HostRuntime) -> anyhow::Result<()> {
-    let outcome = run(&rt);
-    if let Err(fault) = &outcome {
-        eprintln!(rt; "airbook: {fault}")?;
+fn main(rt: HostRuntime) -> ExitCode {
+    if let Err(fault) = run(&rt) {
+        // Where not even that can be said, the status says it.
+        let _ = eprintln!(rt; "airbook: {fault}");
+        return ExitCode::FAILURE;
     }
-    outcome
+    ExitCode::SUCCESS
 }

@@ -1,5 +1,5 @@
 -- A job of a known kind.
-use Rattle.std.proofs.Common.{◌≡◌, ℕ, ◌≤◌, Bool, true, false, cond, List, map, length, replicate, ℤ, pos, None, Option, Result, sym, refl, ap, ◌∙◌, subst}
+use Rattle.std.proofs.Common.{◌≡◌, ℕ, Bool, true, false, cond, List, length, replicate, ℤ, pos, None, Option, Result, sym, ap, ◌∙◌, subst}
 use Rattle.limits.specs.declared.numbers.PlanNumbers.{PlanNumbers}
 use Rattle.limits.specs.Limits.{body_length}
 use Rattle.limits.specs.Limits.{on_bare}
@@ -10,7 +10,7 @@ use Rattle.book.specs.declared.contents.Kind.{Kind}
 use Rattle.book.specs.declared.contents.Kind.TheVariants.{Block}
 use Rattle.book.specs.declared.fault.EntryFault.{EntryFault}
 use Rattle.book.specs.Handing.{Fit, Done, ReadEntry}
-use Rattle.book.specs.Running.{Idle, Outcome, outcome, read, read_marks, first_over}
+use Rattle.book.specs.Running.{Outcome, outcome, read, read_marks, first_over}
 
 pub at_kind : {k : Kind} (j : Kind) {p : PlanNumbers} {n : ℕ} {m : List ℕ} {first second steps hard soft : ℕ} → k ≡ j → Fit k p n m first second steps hard soft → Fit j p n m first second steps hard soft
 at_kind j {p} {n} {m} {first} {second} {steps} {hard} {soft} e f = subst (λ (x : Kind). Fit x p n m first second steps hard soft) e f

@@ -1,11 +1,10 @@
 -- The entries of an accepted book: where they lie, and that the buffers are enough for each.
-use Rattle.std.proofs.Common.{◌≡◌, ℕ, zero, suc, ◌+◌, ◌-◌, ◌*◌, ◌<◌, ◌≤◌, max, leb, ◌⊎◌, List, [], ◌∷◌, ◌++◌, length, take, drop, replicate, Some, None, Option, Result, sym, refl, ap, ◌∙◌, subst, inl, inr, append_assoc, add-one, arith, length-append}
-use Rattle.std.proofs.lemmas.List.{length-replicate}
+use Rattle.std.proofs.Common.{◌≡◌, ℕ, zero, suc, ◌+◌, ◌-◌, ◌*◌, ◌<◌, ◌≤◌, leb, ◌⊎◌, List, ◌++◌, length, take, drop, replicate, Some, None, Option, Result, sym, refl, ap, ◌∙◌, subst, inl, inr, append_assoc, add-one, arith, length-append}
 use Rattle.std.proofs.Math.Nat.{add-sub_cancel_left}
 use Rattle.std.proofs.lemmas.List.{drop_at, take_at, take-replicate, drop-replicate}
 use Rattle.std.proofs.lemmas.Bool.{and_parts, leb-true, cases_lt}
 use Rattle.stack.specs.Buffers.{zeros, padded}
-use Rattle.book.specs.Contents.{count, contents_end, kind_of, line_at}
+use Rattle.book.specs.Contents.{count, kind_of, line_at}
 use Rattle.plan.specs.Stacks.{Layout}
 use Rattle.stack.specs.declared.corrections.Corrections.{Corrections}
 use Rattle.book.specs.declared.contents.EntryLine.{EntryLine}
@@ -17,8 +16,8 @@ use Rattle.book.specs.declared.fault.EntryFault.{EntryFault}
 use Rattle.book.specs.declared.job.Job.{Job}
 use Rattle.book.specs.declared.job.Needs.{Needs}
 use Rattle.book.specs.Jobs.{JobOf}
-use Rattle.book.specs.Running.{Outcome, Reached, entry_bytes, entry_outcome, outcome, outcome_by, record_at, refusal_of, counts_of, results_before}
-use Rattle.book.specs.Judging.{Enough, and_needs, kind_needs, result_length, entry_needs, entry_wrong, file_wrong, needs_before, start_at}
+use Rattle.book.specs.Running.{Reached, entry_bytes, entry_outcome, outcome, outcome_by, record_at, refusal_of, counts_of, results_before}
+use Rattle.book.specs.Judging.{Enough, kind_needs, result_length, entry_needs, entry_wrong, file_wrong, needs_before, start_at}
 use Rattle.book.proofs.Covering.{passed, each_right}
 use Rattle.book.proofs.Judged.{start_more, needs_more, job_needs}
 

@@ -1,8 +1,8 @@
 -- Lists that are filled element by element.
-use Rattle.std.proofs.Common.{◌≡◌, ℕ, zero, suc, ◌+◌, ◌*◌, ◌<◌, ◌≤◌, Bool, true, false, cond, eqb, leb, List, [], ◌∷◌, ◌++◌, map, length, get_or, take, drop, set, ℤ, pos, Some, None, Option, sym, refl, ap, ◌∙◌, subst, le_of_suc-le-suc, add-suc, suc-add, mul-suc, add-one, arith, drop_of_length-le, take_all, drop-cons, take-suc, take-suc-set, w16, to_z}
+use Rattle.std.proofs.Common.{◌≡◌, ℕ, zero, suc, ◌+◌, ◌*◌, ◌<◌, ◌≤◌, Bool, cond, leb, List, [], ◌∷◌, ◌++◌, map, length, get_or, take, drop, set, ℤ, Some, None, sym, refl, ap, ◌∙◌, le_of_suc-le-suc, add-one, arith, drop_of_length-le, take_all, drop-cons, take-suc, take-suc-set, w16, to_z}
 use Rattle.std.proofs.lemmas.List.{map-append}
 use Rattle.std.proofs.lemmas.Bool.{le-leb, lt-leb}
-use Rattle.book.specs.Running.{mark_of, first_over, samples}
+use Rattle.book.specs.Running.{first_over, samples}
 
 -- one element more
 pub one_more : {A B : Type 0} (f : A → B) (xs : List A) (ys : List B) (d : A) (v : B) (i : ℕ) → i < length xs → i < length ys → v ≡ f (get_or xs i d) → take i ys ≡ map f (take i xs) → take (i + 1) (set ys i v) ≡ map f (take (i + 1) xs)

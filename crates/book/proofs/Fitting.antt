@@ -1,5 +1,5 @@
 -- Calls by a plan whose buffers are long enough.
-use Rattle.std.proofs.Common.{◌≡◌, ℕ, zero, suc, ◌+◌, ◌-◌, ◌*◌, ◌<◌, ◌≤◌, Bool, true, false, cond, ◌&&◌, eqb, leb, List, [], ◌∷◌, ◌++◌, map, length, take, replicate, IfOk, Some, None, Ok, Err, Option, Result, sym, refl, ap, ◌∙◌, subst, arith, eq-eqb}
+use Rattle.std.proofs.Common.{◌≡◌, ℕ, ◌+◌, ◌-◌, ◌*◌, ◌≤◌, Bool, true, false, cond, ◌&&◌, eqb, leb, List, ◌++◌, map, length, take, IfOk, Some, None, Ok, Err, Option, Result, sym, refl, ap, ◌∙◌, subst, arith, eq-eqb}
 use Rattle.std.proofs.lemmas.List.{length-replicate}
 use Rattle.std.proofs.Math.Seq.{take-append_seam}
 use Rattle.std.proofs.Math.Nat.{sub-zero}
@@ -16,7 +16,7 @@ use Rattle.stack.specs.declared.corrections.Corrections.{Corrections}
 use Rattle.stack.specs.declared.fault.CarrierFault.{CarrierFault}
 use Rattle.stack.specs.declared.fault.Misfit.{Misfit}
 use Rattle.stack.specs.Buffers.{padded, zeros}
-use Rattle.stack.specs.Calls.{judged, told, Sent, Held}
+use Rattle.stack.specs.Calls.{judged, told, Held}
 use Rattle.stack.specs.Meaning.{Received}
 use Rattle.stack.specs.declared.fault.Misfit.TheVariants.{Buffers, AirLength}
 use Rattle.stack.specs.Bodies.{length-padded, take-padded}

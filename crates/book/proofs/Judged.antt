@@ -1,5 +1,5 @@
 -- Each thing that can be wrong with an entry, and an entry with which nothing is.
-use Rattle.std.proofs.Common.{◌≡◌, ℕ, zero, suc, ◌+◌, ◌<◌, ◌≤◌, Bool, true, false, cond, eqb, ◌⊎◌, List, length, Some, None, Option, sym, refl, ap, ◌∙◌, inl, inr, le_of_suc-le-suc, add-one, arith, eq-eqb, ne_eqb}
+use Rattle.std.proofs.Common.{◌≡◌, ℕ, zero, suc, ◌+◌, ◌<◌, ◌≤◌, Bool, true, false, cond, eqb, ◌⊎◌, List, length, Some, None, Option, refl, ap, ◌∙◌, inl, inr, add-one, arith, eq-eqb, ne_eqb}
 use Rattle.std.proofs.lemmas.Bool.{cases_lt}
 use Rattle.plan.specs.Listed.{listed}
 use Rattle.plan.specs.Stacks.{Layout}
@@ -7,7 +7,6 @@ use Rattle.book.specs.declared.contents.Kind.{Kind}
 use Rattle.book.specs.declared.contents.EntryLine.{EntryLine}
 use Rattle.book.specs.declared.fault.BookFault.{BookFault}
 use Rattle.book.specs.declared.job.Job.{Job}
-use Rattle.book.specs.declared.job.Needs.{Needs}
 use Rattle.book.specs.declared.fault.BookFault.TheVariants.{Start, Unlisted, Kind as OfKind, Length}
 use Rattle.book.specs.Contents.{kind_of, line_at, count, contents_end}
 use Rattle.book.specs.Jobs.{JobOf}

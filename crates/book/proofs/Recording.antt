@@ -1,8 +1,8 @@
 -- The records, and what is reached, before the first entry and after each.
-use Rattle.std.proofs.Common.{◌≡◌, ℕ, zero, suc, ◌+◌, ◌-◌, ◌*◌, ◌<◌, ◌≤◌, ◌≢◌, ◌⊎◌, List, [], ◌∷◌, ◌++◌, length, get_or, set, sym, refl, ap, ◌∙◌, subst, inl, inr, arith, length-set, get_or-set_other, get_or-set_same}
+use Rattle.std.proofs.Common.{◌≡◌, ℕ, ◌+◌, ◌*◌, ◌<◌, ◌≤◌, ◌≢◌, ◌⊎◌, List, length, get_or, set, sym, refl, ap, ◌∙◌, inl, inr, arith, length-set, get_or-set_other, get_or-set_same}
 use Rattle.std.proofs.Math.Nat.{sub-zero}
 use Rattle.std.proofs.lemmas.Bool.{cases_lt}
-use Rattle.stack.specs.Buffers.{zeros, padded}
+use Rattle.stack.specs.Buffers.{zeros}
 use Rattle.book.specs.declared.entry.Entry.{Entry}
 use Rattle.book.specs.Contents.{count}
 use Rattle.book.specs.Judging.{needs_before, start_at}

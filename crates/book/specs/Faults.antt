@@ -1,5 +1,4 @@
 -- Each refusal of a book or of an entry in numbers.
-use Rattle.std.specs.Prelude.{ℕ}
 use Rattle.stack.specs.declared.fault.Report.{Report}
 use Rattle.stack.specs.Faults.{fault_number, fault_place}
 use Rattle.book.specs.declared.fault.BookFault.{BookFault}

@@ -1,5 +1,5 @@
 -- A judged entry.
-use Rattle.std.specs.Prelude.{◌≡◌, ℕ, ◌<◌, true, Some}
+use Rattle.std.specs.Prelude.{◌≡◌, ◌<◌, true, Some}
 use Rattle.plan.specs.Listed.{listed}
 use Rattle.book.specs.declared.contents.EntryLine.{EntryLine}
 use Rattle.book.specs.declared.job.Job.{Job}

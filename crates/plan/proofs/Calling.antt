@@ -1,5 +1,5 @@
 -- Calls of a plan's coder, as calls by the plan.
-use Rattle.std.proofs.Common.{◌≡◌, ℕ, ◌+◌, ◌*◌, ◌≤◌, Bool, true, false, cond, List, length, take, Ok, Err, Result, sym, refl, ap, ◌∙◌, subst, arith, MatchResult}
+use Rattle.std.proofs.Common.{◌≡◌, ℕ, ◌+◌, ◌*◌, ◌≤◌, Bool, true, false, cond, List, length, take, Ok, Err, Result, sym, ap, ◌∙◌, subst, arith, MatchResult}
 use Rattle.convolution.specs.declared.rate.Rate.{Rate}
 use Rattle.line.specs.Line.{block}
 use Rattle.stack.specs.declared.corrections.Corrections.{Corrections}

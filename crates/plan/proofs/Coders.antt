@@ -1,12 +1,11 @@
 -- The parts of a coder are the stages of its plan.
-use Rattle.std.proofs.Common.{◌≡◌, ℕ, ◌+◌, ◌*◌, ◌<◌, ◌≤◌, Bool, true, false, cond, eqb, List, [], ◌∷◌, ◌++◌, length, Some, None, Option, sym, refl, ap, ◌∙◌, subst, ap₂, arith, length-append, MatchOption}
-use Rattle.std.proofs.lemmas.Bool.{eq-eqb, ne_eqb}
+use Rattle.std.proofs.Common.{◌≡◌, ℕ, ◌+◌, ◌*◌, ◌<◌, ◌≤◌, Bool, cond, List, [], ◌∷◌, ◌++◌, length, Some, None, Option, sym, ap, ◌∙◌, subst, ap₂, arith, length-append, MatchOption}
+use Rattle.std.proofs.lemmas.Bool.{ne_eqb}
 use Rattle.galois.specs.declared.chosen.AnyField.{AnyField}
-use Rattle.galois.specs.Choice.{chosen_field}
 use Rattle.reed_solomon.specs.declared.stage.ReedSolomon.{ReedSolomon}
 use Rattle.reed_solomon.specs.Coding.{coding}
 use Rattle.reed_solomon.specs.Protecting.{Apart}
-use Rattle.stack.specs.Meaning.{StageMeaning, CarrierMeaning, stacked, Meets}
+use Rattle.stack.specs.Meaning.{StageMeaning, CarrierMeaning, Meets}
 use Rattle.stack.specs.Optional.{with_stage, MeetsIfAny}
 use Rattle.stack.specs.Rules.{CarrierRule}
 use Rattle.stack.specs.Stacks.{stack_of, Stand, Composed}
@@ -20,7 +19,7 @@ use Rattle.stages.specs.Randomising.{randomising, Randomises}
 use Rattle.limits.specs.declared.numbers.PlanNumbers.{PlanNumbers}
 use Rattle.plan.specs.Coders.{check_meaning, randomiser_meaning, code_meaning, interleaver_meaning, stage_list, CodeOf, low_meaning, coder_meaning, CoderFits, Coded, Unfitting}
 use Rattle.limits.specs.Limits.{data_length, word_length, coded_length, body_length}
-use Rattle.plan.specs.Stacks.{field_of, check_part, randomiser_part, code_part, plan_stages, plan_on}
+use Rattle.plan.specs.Stacks.{check_part, randomiser_part, code_part, plan_stages, plan_on}
 use Rattle.plan.proofs.Standing.{stack_append, with_stage_list, stands_meets, code_stand, random_stand, plan_stand}
 use Rattle.limits.proofs.Within.{Sound}
 

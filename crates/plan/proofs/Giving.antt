@@ -1,13 +1,11 @@
 -- What a plan's stack gives has the plan's lengths.
-use Rattle.std.proofs.Common.{◌≡◌, ℕ, ◌+◌, ◌-◌, ◌*◌, ◌<◌, ◌≤◌, Bool, true, false, cond, eqb, List, [], ◌∷◌, ◌++◌, map, length, IfOk, Ok, Err, Result, sym, refl, ap, ◌∙◌, subst, arith}
-use Rattle.std.proofs.lemmas.List.{length-map}
+use Rattle.std.proofs.Common.{◌≡◌, ℕ, ◌-◌, ◌*◌, ◌<◌, ◌≤◌, false, List, length, IfOk, sym, refl, ◌∙◌, arith}
 use Rattle.line.specs.Line.{lining}
 use Rattle.line.specs.Lined.{lining_rule}
 use Rattle.std.proofs.lemmas.Result.{MatchResult-weaker}
-use Rattle.stack.specs.declared.fault.CarrierFault.{CarrierFault}
 use Rattle.stack.specs.Bare.{bare}
-use Rattle.stack.specs.Meaning.{Received, CarrierMeaning}
-use Rattle.stack.specs.Rules.{CarrierRule, Receives}
+use Rattle.stack.specs.Meaning.{CarrierMeaning}
+use Rattle.stack.specs.Rules.{CarrierRule}
 use Rattle.stack.specs.Stacks.{Composed, stack_of}
 use Rattle.stack.proofs.Composing.{stacks_compose}
 use Rattle.limits.specs.declared.numbers.PlanNumbers.{PlanNumbers}

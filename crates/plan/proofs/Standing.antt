@@ -1,16 +1,15 @@
 -- The stages of a plan stand on every carrier whose body is as long as the plan's words.
-use Rattle.std.proofs.Common.{◌≡◌, ℕ, ◌+◌, ◌-◌, ◌*◌, ◌<◌, ◌≤◌, max, Bool, true, false, cond, eqb, List, [], ◌∷◌, ◌++◌, length, Some, None, Option, sym, refl, ap, ◌∙◌, subst, mul-add, arith}
+use Rattle.std.proofs.Common.{◌≡◌, ℕ, ◌+◌, ◌*◌, ◌≤◌, Bool, true, false, cond, eqb, List, [], ◌∷◌, ◌++◌, length, Some, None, Option, sym, refl, ap, ◌∙◌, mul-add, arith}
 use Rattle.std.proofs.lemmas.Bool.{eqb-true, eqb-false}
-use Rattle.galois.specs.Bytes.{ByteField, FieldRule}
+use Rattle.galois.specs.Bytes.{FieldRule}
 use Rattle.galois.specs.Polynomials.{field_1, field_2}
 use Rattle.galois.specs.Rules.{rule_1, rule_2}
-use Rattle.reed_solomon.specs.Coding.{Limits, coding}
+use Rattle.reed_solomon.specs.Coding.{coding}
 use Rattle.reed_solomon.specs.Coded.{coding_rule}
-use Rattle.stack.specs.Meaning.{StageMeaning, CarrierMeaning, stacked, Meets}
+use Rattle.stack.specs.Meaning.{StageMeaning, CarrierMeaning, stacked}
 use Rattle.stack.specs.Optional.{with_stage, MeetsIfAny}
-use Rattle.stack.specs.Rules.{StageRule, CarrierRule}
+use Rattle.stack.specs.Rules.{StageRule}
 use Rattle.stack.specs.Stacks.{stack_of, top_body, Stand, longest, Composed}
-use Rattle.stack.proofs.Composing.{stacks_compose}
 use Rattle.stages.specs.Checking.{checking}
 use Rattle.stages.specs.Interleaving.{interleaving}
 use Rattle.stages.specs.Randomising.{randomising}
@@ -20,7 +19,7 @@ use Rattle.stages.specs.Moved.{interleaving_rule}
 use Rattle.limits.specs.declared.numbers.PlanNumbers.{PlanNumbers}
 use Rattle.plan.specs.Coders.{stage_list}
 use Rattle.limits.specs.Limits.{data_length, word_length, coded_length, body_length}
-use Rattle.plan.specs.Stacks.{field_of, check_part, randomiser_part, code_part, plan_stages}
+use Rattle.plan.specs.Stacks.{field_of, randomiser_part, code_part, plan_stages}
 use Rattle.limits.proofs.Within.{Sound, data_low, data_high, coded_high}
 
 -- lists of stages

@@ -7,7 +7,7 @@ use Rattle.convolution.specs.declared.rate.Rate.TheVariants.{Half, TwoThirds, Th
 use Rattle.convolution.proofs.Pattern.{count_half, count_third, count_two_thirds, count_three_quarters}
 use Rattle.plan.specs.declared.listed.Listed.{Listed}
 use Rattle.limits.specs.declared.numbers.PlanNumbers.{PlanNumbers}
-use Rattle.limits.specs.Limits.{within, all_hold, code_limits, stage_limits, carrier_limits, limits_with_marks, coded_length, data_length, mark_count, rate_of}
+use Rattle.limits.specs.Limits.{within, all_hold, code_limits, stage_limits, limits_with_marks, coded_length, data_length, rate_of}
 use Rattle.plan.specs.Stacks.{Layout}
 use Rattle.plan.specs.Listed.{table, blank, numbers_of, layout_of, among, listed}
 

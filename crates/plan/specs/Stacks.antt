@@ -1,6 +1,5 @@
 -- The stack of a plan: check byte on randomiser on Reed-Solomon on block interleaver on its carrier.
-use Rattle.std.specs.Prelude.{ℕ, ◌+◌, ◌*◌, max, Bool, cond, List, [], ◌∷◌, ◌++◌, ◌==◌}
-use Rattle.convolution.specs.declared.rate.Rate.{Rate}
+use Rattle.std.specs.Prelude.{ℕ, cond, List, [], ◌∷◌, ◌++◌, ◌==◌}
 use Rattle.galois.specs.Bytes.{ByteField}
 use Rattle.galois.specs.Polynomials.{field_1, field_2}
 use Rattle.line.specs.Line.{lining}

@@ -1,6 +1,5 @@
-use Rattle.std.proofs.Common.{◌≡◌, ◌+◌, sym, refl, ap, ◌∙◌, subst}
+use Rattle.std.proofs.Common.{◌+◌, sym, refl, ap, ◌∙◌, subst}
 use Rattle.book.specs.declared.contents.EntryLine.{EntryLine}
-use Rattle.book.specs.Contents.{line_at}
 use Rattle.book.specs.Jobs.{JobOf}
 use Rattle.book.specs.Judging.{entry_wrong}
 use Rattle.book.proofs.Judged.{wrong_start, wrong_plan, wrong_kind, wrong_carrier, wrong-length, right_entry}

@@ -1,7 +1,6 @@
-use Rattle.std.proofs.Common.{◌≡◌, ℕ, ◌+◌, ◌*◌, Bool, true, false, cond, length, Some, None, sym, refl, ap, ◌∙◌, subst, arith}
+use Rattle.std.proofs.Common.{refl, ◌∙◌, arith}
 use Rattle.std.proofs.lemmas.Result.{err_from_is_err_and}
 use Rattle.std.proofs.lemmas.Bool.Decides.{nat_tests}
-use Rattle.book.specs.Judging.{file_wrong, parts_wrong}
 use Rattle.book.proofs.Covering.{covered, other_width, by_size, by_width, by_count, by_contents, by_parts}
 use Rattle.book.proofs.judge.judge_file.Goals as goal
 

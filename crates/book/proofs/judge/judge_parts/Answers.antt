@@ -1,10 +1,9 @@
-use Rattle.std.proofs.Common.{◌≡◌, ℕ, ◌+◌, ◌*◌, Some, None, sym, refl, ap, ◌∙◌, subst, arith}
+use Rattle.std.proofs.Common.{◌≡◌, ℕ, ◌+◌, ◌*◌, None, sym, ap, ◌∙◌, arith}
 use Rattle.std.proofs.lemmas.Result.{err_from_is_err_and}
 use Rattle.book.specs.declared.job.Needs.{Needs}
-use Rattle.book.specs.declared.fault.BookFault.TheVariants.{Start}
-use Rattle.book.specs.Contents.{line_at, count}
-use Rattle.book.specs.Judging.{entry_wrong, entries_wrong, start_at, and_needs, needs_before, entry_needs, parts_wrong}
-use Rattle.book.proofs.Judged.{none_yet, entries_more, start_more, needs_more, job_needs, stays_wrong, parts_by_entry, parts_end_wrong, parts_right}
+use Rattle.book.specs.Contents.{line_at}
+use Rattle.book.specs.Judging.{entry_wrong, start_at, and_needs, needs_before}
+use Rattle.book.proofs.Judged.{none_yet, entries_more, start_more, needs_more, job_needs, stays_wrong, parts_by_entry}
 use Rattle.book.proofs.judge.judge_parts.Goals as goal
 
 pub loop-e-init : goal.loop-e-init

@@ -1,4 +1,4 @@
-use Rattle.std.proofs.Common.{◌≡◌, ℕ, ◌<◌, length, sym, ◌∙◌, arith}
+use Rattle.std.proofs.Common.{◌≡◌, ℕ, sym, ◌∙◌, arith}
 use Rattle.book.specs.Running.{mark_of}
 use Rattle.book.proofs.Filling.{one_more, all_taken, over_not, over_here, over_none}
 use Rattle.book.proofs.run.fill_hard.Goals as goal

@@ -1,4 +1,4 @@
-use Rattle.std.proofs.Common.{◌≡◌, ◌<◌, length, ℤ, pos, sym, ap, ◌∙◌, arith, to_z-of_z, w8, w16, SFits, rules}
+use Rattle.std.proofs.Common.{length, pos, sym, ap, ◌∙◌, arith, to_z-of_z, w8, w16, SFits, rules}
 use Rattle.readings.specs.Samples.{soft_of}
 use Rattle.book.specs.Running.{samples}
 use Rattle.book.proofs.Filling.{one_more, all_taken, samples-length, sample_at}

@@ -1,4 +1,4 @@
-use Rattle.std.proofs.Common.{◌≡◌, ◌<◌, length, ◌∙◌, arith, to_z-of_z, w8, SFits, rules}
+use Rattle.std.proofs.Common.{◌∙◌, arith, to_z-of_z, w8, SFits, rules}
 use Rattle.book.specs.Running.{signed}
 use Rattle.book.proofs.Filling.{one_more, all_taken}
 use Rattle.book.proofs.run.fill_soft.Goals as goal

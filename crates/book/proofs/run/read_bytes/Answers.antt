@@ -1,5 +1,5 @@
-use Rattle.std.proofs.Common.{◌≡◌, ◌≤◌, length, sym, ◌∙◌, arith}
-use Rattle.limits.specs.Limits.{on_bare, step_count}
+use Rattle.std.proofs.Common.{◌∙◌, arith}
+use Rattle.limits.specs.Limits.{on_bare}
 use Rattle.plan.specs.Stacks.{bare_plan}
 use Rattle.limits.proofs.Within.{sound}
 use Rattle.plan.proofs.Giving.{given_bare}

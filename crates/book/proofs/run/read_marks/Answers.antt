@@ -1,5 +1,5 @@
-use Rattle.std.proofs.Common.{◌≡◌, ◌≤◌, Bool, not, length, sym, ap, ◌∙◌, arith}
-use Rattle.limits.specs.Limits.{on_bare, step_count}
+use Rattle.std.proofs.Common.{not, ap, ◌∙◌}
+use Rattle.limits.specs.Limits.{on_bare}
 use Rattle.plan.specs.Stacks.{line_plan}
 use Rattle.limits.proofs.Within.{sound}
 use Rattle.plan.proofs.Giving.{given_line}

@@ -1,11 +1,10 @@
-use Rattle.std.proofs.Common.{◌≡◌, ℕ, ◌≤◌, length, Err, sym, refl, ap, ◌∙◌, subst, arith, rules}
+use Rattle.std.proofs.Common.{ℕ, length, Err, sym, refl, ap, ◌∙◌, arith}
 use Rattle.std.proofs.lemmas.Result.{err_from_is_err_and}
 use Rattle.stack.specs.Buffers.{padded}
 use Rattle.book.specs.declared.fault.BookFault.{BookFault}
 use Rattle.book.specs.declared.job.Needs.{Needs}
 use Rattle.book.specs.Running.{results_before}
 use Rattle.book.specs.Contents.{count}
-use Rattle.book.specs.Judging.{Enough, needs_before}
 use Rattle.book.proofs.Lending.{lent_parts, wrong_file, wrong_lent, right_book, book_refused, book_run, enough_kept}
 use Rattle.book.proofs.Refusals.{only_two}
 use Rattle.book.proofs.run.run_book.Goals as goal

@@ -1,6 +1,6 @@
-use Rattle.std.proofs.Common.{arith, rules}
+use Rattle.std.proofs.Common.{arith}
 use Rattle.book.proofs.Covering.{passed}
-use Rattle.book.proofs.Recording.{none_reached, none_recorded, one_recorded}
+use Rattle.book.proofs.Recording.{none_reached, none_recorded}
 use Rattle.book.proofs.run.run_entries.Goals as goal
 
 pub loop-e-init : goal.loop-e-init

@@ -1,4 +1,4 @@
-use Rattle.std.proofs.Common.{◌≡◌, ◌≤◌, length}
+use Rattle.std.proofs.Common.{◌≤◌, length}
 use Rattle.book.specs.Running.{Idle, Reached, Recorded}
 use Rattle.book.proofs.run.run_entries.Given as goal
 

@@ -1,12 +1,12 @@
-use Rattle.std.proofs.Common.{◌≡◌, ℕ, ◌+◌, ◌-◌, ◌≤◌, List, ◌++◌, length, take, drop, Some, None, sym, refl, ap, ◌∙◌, subst, arith, length-append, rules}
+use Rattle.std.proofs.Common.{◌≡◌, ℕ, ◌+◌, ◌-◌, ◌≤◌, ◌++◌, length, take, drop, None, sym, ap, ◌∙◌, subst, arith, length-append, rules}
 use Rattle.book.specs.declared.job.Needs.{Needs}
 use Rattle.book.specs.Contents.{count, line_at}
-use Rattle.book.specs.Judging.{Enough, entry_needs, entry_wrong, kind_needs, needs_before, result_length, start_at}
+use Rattle.book.specs.Judging.{Enough, entry_needs, entry_wrong}
 use borrow.Rule.Slice.PartMut.{put_mid}
 use Rattle.stack.specs.Buffers.{zeros, padded}
 use Rattle.stack.specs.Bodies.{length-padded}
 use Rattle.book.specs.declared.contents.EntryLine.{EntryLine}
-use Rattle.book.specs.Running.{Outcome, Reached, entry_outcome, entry_bytes, outcome, results_before}
+use Rattle.book.specs.Running.{Outcome, Reached, entry_outcome, outcome, results_before}
 use Rattle.book.proofs.Covering.{starts}
 use Rattle.book.proofs.Judged.{job_needs}
 use Rattle.book.proofs.Entries.{line_inside, entry_right, ends_inside, enough_for, results_fit, job_outcome, bytes_are, part_empty, part_written, recorded, reached_more, file_small, size_is}

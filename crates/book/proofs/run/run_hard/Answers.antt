@@ -1,4 +1,4 @@
-use Rattle.std.proofs.Common.{◌≡◌, ℕ, ◌≤◌, map, length, replicate, None, sym, refl, ap, ◌∙◌, arith, rules}
+use Rattle.std.proofs.Common.{ℕ, map, length, replicate, None, sym, refl, ap, ◌∙◌, arith, rules}
 use Rattle.limits.specs.Limits.{body_length}
 use Rattle.plan.specs.Stacks.{line_plan}
 use Rattle.limits.proofs.Within.{sound, air_high}

@@ -1,7 +1,7 @@
 use Rattle.std.proofs.Common.{length, ap, ◌∙◌}
 use Rattle.std.proofs.lemmas.List.{length-replicate}
-use Rattle.book.specs.declared.contents.Kind.TheVariants.{Body, Block, Soft, Samples}
-use Rattle.book.proofs.Doing.{at_kind, of_kind, read_done, block-bare, block_line}
+use Rattle.book.specs.declared.contents.Kind.TheVariants.{Body}
+use Rattle.book.proofs.Doing.{at_kind}
 use Rattle.book.proofs.run.run_job.Goals as goal
 
 pub write_body-requires : goal.write_body-requires

@@ -1,4 +1,4 @@
-use Rattle.std.proofs.Common.{◌≡◌, ℕ, ◌/◌, ◌≤◌, map, length, replicate, pos, sym, ap, ◌∙◌, arith, rules}
+use Rattle.std.proofs.Common.{ℕ, ◌/◌, map, length, replicate, pos, ap, ◌∙◌, rules}
 use Rattle.limits.specs.Limits.{body_length}
 use Rattle.plan.specs.Stacks.{line_plan}
 use Rattle.readings.specs.Readings.{soft_cost, clean_soft}

@@ -1,4 +1,4 @@
-use Rattle.std.proofs.Common.{◌≡◌, ◌≤◌, length, sym, ap, ◌∙◌, arith}
+use Rattle.std.proofs.Common.{length, sym, ap, ◌∙◌, arith}
 use Rattle.stack.specs.Buffers.{zeros}
 use Rattle.limits.proofs.Within.{sound, body_coded}
 use Rattle.book.proofs.Fitting.{written}

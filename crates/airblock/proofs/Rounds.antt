@@ -1,11 +1,11 @@
 -- What a carrier sends comes back.
-use Rattle.std.proofs.Common.{◌≡◌, ℕ, ◌≤◌, List, length, take, Ok, Err, Result, sym, refl, ap, ◌∙◌, arith}
+use Rattle.std.proofs.Common.{◌≡◌, ℕ, List, length, take, Ok, Err, Result, sym, refl, ap, ◌∙◌, arith}
 use Rattle.std.proofs.lemmas.List.{length-replicate, length-take-le, places}
 use Rattle.stack.specs.declared.corrections.Corrections.{Corrections}
 use Rattle.stack.specs.declared.fault.Misfit.{Misfit}
 use Rattle.stack.specs.declared.fault.Refusal.{Refusal}
 use Rattle.stack.specs.Buffers.{Bytes}
-use Rattle.stack.specs.Calls.{Put, Get, Sent, Held, told, received_into}
+use Rattle.stack.specs.Calls.{Put, Get, Sent, told, received_into}
 use Rattle.stack.specs.Meaning.{CarrierMeaning}
 use Rattle.stack.specs.Rules.{CarrierRule}
 use Rattle.stack.proofs.Judging.{put_accepted, get_accepted}

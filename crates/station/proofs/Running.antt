@@ -1,10 +1,10 @@
 -- After every list of calls on a tuned station, the counts add up.
-use Rattle.std.proofs.Common.{◌≡◌, ℕ, ◌+◌, ◌<◌, ◌≤◌, List, [], ◌∷◌, ◌++◌, length, Ok, sym, refl, ap, ◌∙◌, subst, append_assoc, arith}
+use Rattle.std.proofs.Common.{◌≡◌, ℕ, ◌+◌, List, [], ◌∷◌, ◌++◌, Ok, sym, refl, ap, ◌∙◌, subst, append_assoc, arith}
 use Rattle.stack.specs.Meaning.{CarrierMeaning}
 use Rattle.station.specs.declared.answer.Given.{Given}
 use Rattle.station.specs.declared.counts.Counts.{Counts}
 use Rattle.station.specs.Events.{Event, Read}
-use Rattle.station.specs.Runs.{total, writes, gives, refuses, tries, acknowledges, declines, symbols_of, bytes_of, State, Next, Run, tuned, AddsUp, RunsAddUp}
+use Rattle.station.specs.Runs.{total, writes, gives, refuses, tries, acknowledges, declines, symbols_of, bytes_of, State, Next, Run, tuned, RunsAddUp}
 use Rattle.station.proofs.Holding.{Balanced, balanced_next, held_accepted}
 use Rattle.station.proofs.Moving.{given_says, moved}
 

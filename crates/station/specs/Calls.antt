@@ -1,5 +1,5 @@
 -- What a write and a read answer and leave. A prime marks what is there at the return.
-use Rattle.std.specs.Prelude.{◌≡◌, ℕ, ◌+◌, List, length, take, IfOk, Ok, Err, Result, MatchResult}
+use Rattle.std.specs.Prelude.{◌≡◌, ℕ, ◌+◌, List, length, take, IfOk, Err, Result, MatchResult}
 use Rattle.stack.specs.Calls.{Sent, Held}
 use Rattle.stack.specs.Meaning.{CarrierMeaning}
 use Rattle.station.specs.declared.answer.Given.{Given}
@@ -7,7 +7,7 @@ use Rattle.station.specs.declared.counts.Counts.{Counts}
 use Rattle.station.specs.declared.refusal.ReadRefusal.{ReadRefusal}
 use Rattle.station.specs.declared.refusal.WriteRefusal.{WriteRefusal}
 use Rattle.station.specs.Counting.{write_judged, read_judged, after_read}
-use Rattle.station.specs.Events.{Event, Wrote, Read, Step}
+use Rattle.station.specs.Events.{Wrote, Read, Step}
 
 -- a write, on a carrier whose parts fit where F holds: a block is sent, or all is left as found
 pub record WriteCall {R : Type 0} (F : Type 0) (c : CarrierMeaning R) (n : ℕ) (k : Counts) (a b m : List ℕ) (r : Result (Unit {0}) WriteRefusal) (k' : Counts) (a' b' m' : List ℕ) : Type 0 where

@@ -8,7 +8,6 @@ use Rattle.station.specs.declared.counts.Counts.{Counts}
 use Rattle.station.specs.declared.refusal.ReadRefusal.{ReadRefusal}
 use Rattle.station.specs.declared.refusal.ReadRefusal.TheVariants.{Early as EarlyRead, Full as FullRead, Late as LateRead}
 use Rattle.station.specs.declared.refusal.Unanswered.{Unanswered}
-use Rattle.station.specs.declared.refusal.WriteRefusal.{WriteRefusal}
 use Rattle.station.specs.Counting.{fresh, spent}
 use Rattle.station.specs.Events.{Event, Wrote, Read, Acknowledged, Declined, Counted, Step}
 

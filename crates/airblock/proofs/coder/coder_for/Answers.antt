@@ -1,4 +1,4 @@
-use Rattle.std.proofs.Common.{◌≡◌, ◌+◌, ◌*◌, ◌/◌, ◌<◌, ◌≤◌, arith}
+use Rattle.std.proofs.Common.{◌≡◌, ◌+◌, ◌*◌, ◌/◌, arith}
 use Rattle.std.proofs.Math.Nat.{mod_self}
 use Rattle.airblock.proofs.Words.{whole_words, word_low}
 use Rattle.airblock.proofs.coder.coder_for.Goals as goal

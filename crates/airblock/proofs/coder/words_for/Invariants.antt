@@ -1,4 +1,4 @@
-use Rattle.std.proofs.Common.{◌≡◌, ℕ, ◌%◌, ◌<◌, ◌≤◌}
+use Rattle.std.proofs.Common.{◌≡◌, ℕ, ◌%◌, ◌≤◌}
 use Rattle.airblock.proofs.coder.words_for.Given as goal
 
 abbrev pub invariant-loop-words : goal.invariant-loop-words

@@ -2,7 +2,7 @@
 #![tactic(auto)]
 
 #[cfg(test)]
-mod outer;
+mod outer_words;
 #[cfg(test)]
 mod randomiser;
 #[cfg(test)]

@@ -1,6 +1,9 @@
 // Runs a book from standard input to its last entry, and prints what became of each entry; or why the book is refused.
 #![tactic(auto)]
 
+ghost use Rattle.std.specs.Prelude.{◌≡◌, map, IfOk, string_bytes};
+ghost use Rattle.airbook.specs.Digits.{digit};
+
 use book::contents::{EntryLine, Kind, kind_by_number};
 use book::entry::Entry;
 use book::run::run_book;
@@ -50,7 +53,9 @@ fn is_marks(line: &EntryLine) -> bool {
 }
 
 // Marks as digits.
-fn show_marks(rt: &HostRuntime, marks: &[u8]) -> anyhow::Result<String> {
+fn show_marks(rt: &HostRuntime, marks: &[u8]) -> anyhow::Result<String>
+    ensures { IfOk result (λ s. string_bytes s ≡ map digit marks.now) }
+{
     let mut text = String::new(rt.alloc());
     for mark in marks {
         text.push(if *mark == 0 { '0' } else { '1' })?;

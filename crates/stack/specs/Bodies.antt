@@ -10,6 +10,10 @@ length-padded n xs h = simp (length-append, length-replicate) (omega arith)
 pub take-padded : (n k : ℕ) (xs b : List ℕ) → b ≡ padded n xs → length xs ≡ k → take k b ≡ xs
 take-padded n k xs b e h = ap (take k) e ∙ take_at xs (replicate (n - length xs) 0) k h
 
+-- what clearing leaves, at a type with one default
+pub cleared : {A : Type 0} {v : A} (n : ℕ) (xs : List A) → ((blank : A) × (blank ≡ v) × (xs ≡ replicate n blank)) → xs ≡ replicate n v
+cleared n xs (blank, is, filled) = filled ∙ ap (λ x. replicate n x) is
+
 pub length-zeros : (n : ℕ) (b : List ℕ) → b ≡ zeros n → length b ≡ n
 length-zeros n b e = ap length e ∙ length-replicate n 0
 

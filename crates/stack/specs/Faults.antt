@@ -25,19 +25,27 @@ fault_place (Other code place) = place
 abbrev pub Late : ℕ → Type 0
 Late n = (n ≡ 5) ⊎ ((n ≡ 6) ⊎ (100 ≤ n))
 
--- what does not fit is told at the top: depth 0, place 0
+-- a refusal that is told at the top: depth 0, place 0
+abbrev pub numbered : ℕ → Report
+numbered n = record { number = n; depth = 0; place = 0 }
+
+-- what does not fit is told at the top
 abbrev pub misfit_report : Misfit → Report
-misfit_report Buffers = record { number = 3; depth = 0; place = 0 }
-misfit_report AirLength = record { number = 4; depth = 0; place = 0 }
+misfit_report Buffers = numbered 3
+misfit_report AirLength = numbered 4
+
+-- the fault of a carrier, at its depth
+abbrev pub fault_report : CarrierFault → Report
+fault_report f = record { number = fault_number f.fault; depth = f.depth; place = fault_place f.fault }
 
 -- every refusal of `get`
 abbrev pub reported : Refusal → Report
 reported (Early m) = misfit_report m
-reported (ForReadings f) = record { number = fault_number f.fault; depth = f.depth; place = fault_place f.fault }
+reported (ForReadings f) = fault_report f
 
 -- a stage and a carrier that cannot be stacked
 abbrev pub unstacked_report : Report
-unstacked_report = record { number = 2; depth = 0; place = 0 }
+unstacked_report = numbered 2
 
 -- the fault of a stage, seen from the top of its stack
 abbrev pub at_top : Fault → CarrierFault

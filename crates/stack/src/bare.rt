@@ -3,7 +3,7 @@ ghost use Rattle.std.specs.Prelude.{◌≡◌, ◌≤◌, MatchOption};
 ghost use Rattle.stack.specs.Bare.{bare};
 ghost use Rattle.std.proofs.Common.{rules};
 
-use crate::buffer::{clear, clear_steps, load};
+use crate::buffer::{clear, load};
 use crate::carrier::Carrier;
 use crate::corrections::Corrections;
 use crate::fault::CarrierFault;
@@ -21,10 +21,9 @@ impl Bare {
     pub fn new(length: usize) -> Option<Bare>
         ensures { MatchOption result ((1 ≤ length × length ≤ 98304) → ⊥) (λ b. b.length ≡ length) }
     {
-        if 1 <= length && length <= 98304 {
-            Some(Bare { length })
-        } else {
-            None
+        match length {
+            1..=98_304 => Some(Bare { length }),
+            _ => None,
         }
     }
 }
@@ -71,10 +70,7 @@ impl Carrier for Bare {
     ) -> Result<Corrections, CarrierFault> {
         load(first, readings);
         clear(second);
-        clear_steps(steps);
-        Ok(Corrections {
-            symbols: 0,
-            bytes: 0,
-        })
+        clear(steps);
+        Ok(Corrections::default())
     }
 }

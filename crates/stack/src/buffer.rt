@@ -1,19 +1,15 @@
 // What stages and carriers do to the buffers that they are lent.
-ghost use Rattle.std.specs.Prelude.{◌≡◌, ◌≤◌, length};
-ghost use Rattle.stack.specs.Buffers.{zeros, padded};
+ghost use Rattle.std.specs.Prelude.{◌≡◌, ◌≤◌, length, replicate};
+ghost use Rattle.stack.specs.Buffers.{padded};
 
-// Sets every byte to zero.
-pub fn clear(buffer: &mut [u8])
-    ensures { buffer.new ≡ zeros (length buffer.old) }
+// Leaves nothing in a buffer: every element becomes the default of its type, as zero or an absent reading.
+pub fn clear<T: Copy + Default>(buffer: &mut [T])
+    ensures { (blank : T) × T.is_default blank × (buffer.new ≡ replicate (length buffer.old) blank) }
 {
-    buffer.fill(0);
-}
-
-// Sets every step to zero.
-pub fn clear_steps(steps: &mut [u64])
-    ensures { steps.new ≡ zeros (length steps.old) }
-{
-    steps.fill(0);
+    let blank = T::default();
+    for element in buffer.iter_mut() {
+        *element = blank;
+    }
 }
 
 // Writes a body to the front of a buffer, and zeros behind it.

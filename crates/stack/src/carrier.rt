@@ -7,25 +7,27 @@ ghost use Rattle.stack.specs.Calls.{Sent, Got, Put, Get, judged};
 use crate::corrections::Corrections;
 use crate::fault::{CarrierFault, Misfit, Refusal};
 
-// Judges what was lent: first the buffers, then the list of symbols or readings.
-pub fn judge(
-    need: usize,
-    first: usize,
-    second: usize,
-    step_need: usize,
+// How long what is lent must be: each byte buffer and the step buffer at least, the list of symbols or readings exactly.
+#[derive(Clone, Copy)]
+struct Needs {
+    bytes: usize,
     steps: usize,
     air: usize,
-    list: usize,
-) -> Result<(), Misfit>
-    ensures { result ≡ judged need first second step_need steps air list }
-{
-    if first != second || first < need || steps < step_need {
-        return Err(Misfit::Buffers);
+}
+
+impl Needs {
+    // Judges lent lengths: first the buffers, then the list.
+    fn judge(self, first: usize, second: usize, steps: usize, list: usize) -> Result<(), Misfit>
+        ensures { result ≡ judged self.bytes first second self.steps steps self.air list }
+    {
+        if first != second || first < self.bytes || steps < self.steps {
+            return Err(Misfit::Buffers);
+        }
+        if list != self.air {
+            return Err(Misfit::AirLength);
+        }
+        Ok(())
     }
-    if list != air {
-        return Err(Misfit::AirLength);
-    }
-    Ok(())
 }
 
 pub trait Carrier {
@@ -74,19 +76,41 @@ pub trait Carrier {
         requires { (length second.old ≡ length first.old) × (((meaning self.now).byte_need ≤ length first.old) × (((meaning self.now).step_need ≤ length steps.old) × (length readings.now ≡ (meaning self.now).air))) }
         ensures { fits self.now → Got ((meaning self.now).got readings.now) first.old second.old steps.old result first.new second.new steps.new };
 
+    // Judges what is lent for a `put`.
+    fn judge_put(&self, first: &[u8], second: &[u8], symbols: &[u8]) -> Result<(), Misfit>
+        ensures { result ≡ judged (meaning self.now).byte_need (length first.now) (length second.now) 0 0 (meaning self.now).air (length symbols.now) }
+    {
+        let needs = Needs {
+            bytes: self.byte_need(),
+            steps: 0,
+            air: self.air_length(),
+        };
+        needs.judge(first.len(), second.len(), 0, symbols.len())
+    }
+
+    // Judges what is lent for a `get`.
+    fn judge_get(
+        &self,
+        first: &[u8],
+        second: &[u8],
+        steps: &[u64],
+        readings: &[Self::Reading],
+    ) -> Result<(), Misfit>
+        ensures { result ≡ judged (meaning self.now).byte_need (length first.now) (length second.now) (meaning self.now).step_need (length steps.now) (meaning self.now).air (length readings.now) }
+    {
+        let needs = Needs {
+            bytes: self.byte_need(),
+            steps: self.step_need(),
+            air: self.air_length(),
+        };
+        needs.judge(first.len(), second.len(), steps.len(), readings.len())
+    }
+
     // Takes the body at the front of `first` to `symbols`, and leaves both buffers zero.
     fn put(&self, first: &mut [u8], second: &mut [u8], symbols: &mut [u8]) -> Result<(), Misfit>
         ensures { Put (fits self.now) (meaning self.now) first.old second.old symbols.old result first.new second.new symbols.new }
     {
-        judge(
-            self.byte_need(),
-            first.len(),
-            second.len(),
-            0,
-            0,
-            self.air_length(),
-            symbols.len(),
-        )?;
+        self.judge_put(first, second, symbols)?;
         self.send(first, second, symbols);
         Ok(())
     }
@@ -101,15 +125,7 @@ pub trait Carrier {
     ) -> Result<Corrections, Refusal>
         ensures { Get (fits self.now) (meaning self.now) first.old second.old steps.old readings.now result first.new second.new steps.new }
     {
-        judge(
-            self.byte_need(),
-            first.len(),
-            second.len(),
-            self.step_need(),
-            steps.len(),
-            self.air_length(),
-            readings.len(),
-        )?;
+        self.judge_get(first, second, steps, readings)?;
         let counts = self.receive(first, second, steps, readings)?;
         Ok(counts)
     }

@@ -1,9 +1,11 @@
 // Why stages, carriers and stacks refuse, with each refusal's number, depth and place.
 ghost use Rattle.std.specs.Prelude.{◌≡◌};
-ghost use Rattle.stack.specs.Faults.{Late, fault_number, fault_place, misfit_report, reported, at_top, early, late};
+ghost use Rattle.stack.specs.Faults.{Late, fault_number, fault_place, misfit_report, fault_report, reported, numbered, at_top, early, late};
+
+use std::fmt;
 
 // Why one part of a stack, a stage or the carrier at its foot, refuses what it was given to read.
-#[derive(Clone, Copy)]
+#[derive(Clone, Copy, Debug, PartialEq, Eq)]
 pub enum Fault {
     // No code word is near enough to this word.
     NoCodeWord { word: u32 },
@@ -14,14 +16,14 @@ pub enum Fault {
 }
 
 // Why a carrier refuses readings: the part that did, by its depth below the top.
-#[derive(Clone, Copy)]
+#[derive(Clone, Copy, Debug, PartialEq, Eq)]
 pub struct CarrierFault {
     pub depth: u32,
     pub fault: Fault,
 }
 
 // Lent memory that does not fit the carrier.
-#[derive(Clone, Copy)]
+#[derive(Clone, Copy, Debug, PartialEq, Eq)]
 pub enum Misfit {
     // The byte buffers are unequal in length, or a buffer is shorter than its need.
     Buffers,
@@ -30,18 +32,50 @@ pub enum Misfit {
 }
 
 // Why `get` refuses: before it looks at the readings, or for what they say.
-#[derive(Clone, Copy)]
+#[derive(Clone, Copy, Debug, PartialEq, Eq)]
 pub enum Refusal {
     Early(Misfit),
     Late(CarrierFault),
 }
 
 // A refusal in numbers, as it is printed and logged.
-#[derive(Clone, Copy)]
+#[derive(Clone, Copy, Debug, PartialEq, Eq)]
 pub struct Report {
     pub number: u32,
     pub depth: u32,
     pub place: u32,
+}
+
+// A refusal that can be told in numbers.
+pub trait Reported {
+    ghost use Rattle.stack.specs.declared.fault.Report.{Report};
+
+    // What it is told as.
+    ghost told: { Self → Report };
+
+    // This refusal in numbers.
+    fn report(&self) -> Report
+        ensures { result ≡ told self.now };
+}
+
+impl Report {
+    // The report of a refusal that has a number alone.
+    pub fn numbered(number: u32) -> Report
+        ensures { result ≡ numbered number }
+    {
+        Report {
+            number,
+            depth: 0,
+            place: 0,
+        }
+    }
+}
+
+// The three numbers, as programs print them.
+impl fmt::Display for Report {
+    fn fmt<W: fmt::Write>(&self, f: &mut fmt::Formatter<W>) -> fmt::Result {
+        write!(f, "{} {} {}", self.number, self.depth, self.place)
+    }
 }
 
 impl Fault {
@@ -69,35 +103,36 @@ impl Fault {
     }
 }
 
-impl Misfit {
-    // This refusal in numbers.
-    pub fn report(&self) -> Report
-        ensures { result ≡ misfit_report self.now }
-    {
-        let number = match *self {
+impl Reported for Misfit {
+    ghost told = { misfit_report };
+
+    fn report(&self) -> Report {
+        Report::numbered(match *self {
             Misfit::Buffers => 3,
             Misfit::AirLength => 4,
-        };
+        })
+    }
+}
+
+impl Reported for CarrierFault {
+    ghost told = { fault_report };
+
+    fn report(&self) -> Report {
         Report {
-            number,
-            depth: 0,
-            place: 0,
+            number: self.fault.number(),
+            depth: self.depth,
+            place: self.fault.place(),
         }
     }
 }
 
-impl Refusal {
-    // This refusal in numbers.
-    pub fn report(&self) -> Report
-        ensures { result ≡ reported self.now }
-    {
-        match *self {
+impl Reported for Refusal {
+    ghost told = { reported };
+
+    fn report(&self) -> Report {
+        match self {
             Refusal::Early(misfit) => misfit.report(),
-            Refusal::Late(at) => Report {
-                number: at.fault.number(),
-                depth: at.depth,
-                place: at.fault.place(),
-            },
+            Refusal::Late(fault) => fault.report(),
         }
     }
 }

@@ -1,12 +1,12 @@
 // A stage that may be left out, on a carrier, which is a carrier again.
 ghost use Rattle.std.specs.Prelude.{◌≡◌, MatchResult};
-ghost use Rattle.stack.specs.Faults.{unstacked_report};
 ghost use Rattle.stack.specs.Optional.{with_stage, MeetsIfAny};
 ghost use Rattle.stack.specs.Choosing.{with_stage_rule};
 
 use crate::carrier::Carrier;
 use crate::corrections::Corrections;
-use crate::fault::{CarrierFault, Report};
+use crate::fault::CarrierFault;
+use crate::stack::Unstacked;
 use crate::stage::Stage;
 use crate::through;
 
@@ -15,26 +15,6 @@ use crate::through;
 pub struct Optional<S, C> {
     stage: Option<S>,
     carrier: C,
-}
-
-// A stage and a carrier that cannot be stacked, as they were.
-#[derive(Drop)]
-pub struct Unset<S, C> {
-    pub stage: Option<S>,
-    pub carrier: C,
-}
-
-impl<S, C> Unset<S, C> {
-    // This refusal in numbers.
-    pub fn report(&self) -> Report
-        ensures { result ≡ unstacked_report }
-    {
-        Report {
-            number: 2,
-            depth: 0,
-            place: 0,
-        }
-    }
 }
 
 impl<S, C> Optional<S, C> {
@@ -48,7 +28,7 @@ impl<S, C> Optional<S, C> {
 
 impl<S: Stage, C: Carrier> Optional<S, C> {
     // Sets a stage, if there is one, on a carrier; hands both back where the lengths differ or the carrier is 32 high.
-    pub fn new(stage: Option<S>, carrier: C) -> Result<Optional<S, C>, Unset<S, C>>
+    pub fn new(stage: Option<S>, carrier: C) -> Result<Optional<S, C>, Unstacked<Option<S>, C>>
         ensures { MatchResult result (λ p. (p.stage ≡ stage) × (p.carrier ≡ carrier) × (C.Carrier.fits carrier → C.Carrier.fits p.carrier × MeetsIfAny S.Stage.meaning p.stage (C.Carrier.meaning p.carrier))) (λ e. (e.stage ≡ stage) × (e.carrier ≡ carrier) × (C.Carrier.fits carrier → MeetsIfAny S.Stage.meaning stage (C.Carrier.meaning carrier) → ⊥)) }
     {
         let meets = match &stage {
@@ -58,7 +38,7 @@ impl<S: Stage, C: Carrier> Optional<S, C> {
         if meets {
             Ok(Optional { stage, carrier })
         } else {
-            Err(Unset { stage, carrier })
+            Err(Unstacked { stage, carrier })
         }
     }
 }

@@ -7,8 +7,9 @@ ghost use Rattle.stack.specs.Stacking.{stacked_rule};
 
 use crate::carrier::Carrier;
 use crate::corrections::Corrections;
-use crate::fault::{CarrierFault, Report};
+use crate::fault::{CarrierFault, Report, Reported};
 use crate::stage::Stage;
+use crate::through;
 
 // A stage on a carrier.
 #[derive(Drop)]
@@ -24,16 +25,11 @@ pub struct Unstacked<S, C> {
     pub carrier: C,
 }
 
-impl<S, C> Unstacked<S, C> {
-    // This refusal in numbers.
-    pub fn report(&self) -> Report
-        ensures { result ≡ unstacked_report }
-    {
-        Report {
-            number: 2,
-            depth: 0,
-            place: 0,
-        }
+impl<S, C> Reported for Unstacked<S, C> {
+    ghost told = { λ _. unstacked_report };
+
+    fn report(&self) -> Report {
+        Report::numbered(2)
     }
 }
 
@@ -83,9 +79,7 @@ impl<S: Stage, C: Carrier> Carrier for Stack<S, C> {
     }
 
     fn byte_need(&self) -> usize {
-        self.stage
-            .upper()
-            .max(self.stage.lower().max(self.carrier.byte_need()))
+        through::byte_need(&self.stage, &self.carrier)
     }
 
     fn step_need(&self) -> usize {
@@ -93,8 +87,7 @@ impl<S: Stage, C: Carrier> Carrier for Stack<S, C> {
     }
 
     fn send(&self, first: &mut [u8], second: &mut [u8], symbols: &mut [u8]) {
-        self.stage.encode(first, second);
-        self.carrier.send(second, first, symbols);
+        through::send(&self.stage, &self.carrier, first, second, symbols);
     }
 
     fn receive(
@@ -104,18 +97,6 @@ impl<S: Stage, C: Carrier> Carrier for Stack<S, C> {
         steps: &mut [u64],
         readings: &[C::Reading],
     ) -> Result<Corrections, CarrierFault> {
-        match self.carrier.receive(second, first, steps, readings) {
-            Ok(below) => {
-                let count = self.stage.decode(second, first)?;
-                Ok(Corrections {
-                    symbols: below.symbols,
-                    bytes: below.bytes.saturating_add(count),
-                })
-            }
-            Err(below) => Err(CarrierFault {
-                depth: below.depth.saturating_add(1),
-                fault: below.fault,
-            }),
-        }
+        through::receive(&self.stage, &self.carrier, first, second, steps, readings)
     }
 }

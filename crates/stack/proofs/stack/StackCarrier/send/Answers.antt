@@ -1,7 +1,0 @@
-use Rattle.std.proofs.Common.{arith}
-use Rattle.stack.specs.Stacking.{stacked-sent}
-use Rattle.stack.proofs.stack.StackCarrier.send.Goals as goal
-
-pub returns : goal.returns
-returns g c = λ fit.
-    stacked-sent (g.met.S.Stage.rule _) fit.1 (omega (arith, c.requires)) (omega (arith, c.requires)) c.encode.ensures (c.send.ensures fit.0)

@@ -47,6 +47,10 @@ erasing_rule n low high = record {
   returns = λ x h b i. cond (present_all x i) (Ok (record { body = values_all x i; counts = record { symbols = 0; bytes = 0 } })) (Err (record { depth = 0; fault = Other 1 0 }));
 }
 
+-- what a choice between a body and a refusal gives, where it is known whether every reading is there
+pub chosen : {A : Type 0} (b c : Bool) (x y : A) → b ≡ c → cond b x y ≡ cond c x y
+chosen b c x y e = ap (λ z. cond z x y) e
+
 -- one reading more
 
 pub at_none : (rs : List (Option ℕ)) (i : ℕ) (d : Option ℕ) → i < length rs → slice_index_or rs i d ≡ None → present (drop i rs) ≡ present rs → false ≡ present rs

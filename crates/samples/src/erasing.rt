@@ -1,10 +1,11 @@
 // A carrier whose readings are bytes or absent, and which refuses a block with an absent byte.
-ghost use Rattle.std.specs.Prelude.{◌≡◌, ◌≤◌, true, length, MatchOption};
+ghost use Rattle.std.specs.Prelude.{◌≡◌, ◌≤◌, true, length, if◌then◌else◌, Ok, Err, MatchOption};
+ghost use Rattle.stack.specs.declared.fault.Fault.TheVariants.{Other};
 ghost use Rattle.stack.specs.Buffers.{padded};
 ghost use Rattle.samples.specs.Erased.{erasing, present, values};
 ghost use Rattle.samples.specs.Absence.{erasing_rule};
 
-use stack::buffer::{clear, clear_steps};
+use stack::buffer::clear;
 use stack::carrier::Carrier;
 use stack::corrections::Corrections;
 use stack::fault::{CarrierFault, Fault};
@@ -22,28 +23,30 @@ impl Erasing {
     pub fn new(length: usize) -> Option<Erasing>
         ensures { MatchOption result ((1 ≤ length × length ≤ 98304) → ⊥) (λ c. c.length ≡ length) }
     {
-        if 1 <= length && length <= 98304 {
-            Some(Erasing { length })
-        } else {
-            None
+        match length {
+            1..=98_304 => Some(Erasing { length }),
+            _ => None,
         }
     }
 }
 
-// Whether every reading is there; `to` then begins with them.
-fn collect(readings: &[Option<u8>], to: &mut [u8]) -> bool
+// Why a block with an absent byte is refused.
+const ABSENT: Fault = Fault::Other { code: 1, place: 0 };
+
+// The bytes that were read, at the front of `to`, unless one is absent.
+fn collect(readings: &[Option<u8>], to: &mut [u8]) -> Result<(), Fault>
     requires { length readings.now ≤ length to.old }
-    ensures all { result ≡ present readings.now }
-    ensures filled { result ≡ true → to.new ≡ padded (length to.old) (values readings.now) }
+    ensures all { result ≡ (if present readings.now then Ok tt else Err (Other 1 0)) }
+    ensures filled { present readings.now ≡ true → to.new ≡ padded (length to.old) (values readings.now) }
 {
     clear(to);
-    for i in 0..readings.len() {
-        match readings[i] {
-            Some(v) => to[i] = v,
-            None => return false,
+    for (i, reading) in readings.iter().enumerate() {
+        match *reading {
+            Some(value) => to[i] = value,
+            None => return Err(ABSENT),
         }
     }
-    true
+    Ok(())
 }
 
 impl Carrier for Erasing {
@@ -87,18 +90,11 @@ impl Carrier for Erasing {
         readings: &[Option<u8>],
     ) -> Result<Corrections, CarrierFault> {
         clear(second);
-        clear_steps(steps);
-        if collect(readings, first) {
-            Ok(Corrections {
-                symbols: 0,
-                bytes: 0,
-            })
-        } else {
+        clear(steps);
+        if let Err(fault) = collect(readings, first) {
             clear(first);
-            Err(CarrierFault {
-                depth: 0,
-                fault: Fault::Other { code: 1, place: 0 },
-            })
+            return Err(fault.into());
         }
+        Ok(Corrections::default())
     }
 }

@@ -20,10 +20,9 @@ impl Marker {
     pub fn new(length: usize) -> Option<Marker>
         ensures { MatchOption result ((1 ≤ length × length < 98304) → ⊥) (λ m. m.length ≡ length) }
     {
-        if 1 <= length && length < 98304 {
-            Some(Marker { length })
-        } else {
-            None
+        match length {
+            1..98_304 => Some(Marker { length }),
+            _ => None,
         }
     }
 }

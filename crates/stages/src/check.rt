@@ -21,10 +21,11 @@ impl CheckByte {
     pub fn new(length: usize) -> Option<CheckByte>
         ensures { MatchOption result ((1 ≤ length × length < 98304) → ⊥) (λ s. s.length ≡ length) }
     {
-        if !(1..98_304).contains(&length) {
-            return None;
+        if (1..98_304).contains(&length) {
+            Some(CheckByte { length })
+        } else {
+            None
         }
-        Some(CheckByte { length })
     }
 }
 

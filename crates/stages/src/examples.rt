@@ -4,5 +4,4 @@ ghost use Rattle.stages.specs.Examples.{Examples};
 // The examples hold of what the stages mean.
 pub fn examples_hold()
     ensures { Examples }
-{
-}
+{}

@@ -1,6 +1,6 @@
 // The randomiser: a shift register's sequence added to a body.
-ghost use Rattle.std.specs.Prelude.{◌≡◌, ◌<◌, ◌≤◌, Bool, List};
-ghost use Rattle.stages.specs.Sequence.{after, byte_of, loaded, lowest_bits, randomised, sums};
+ghost use Rattle.std.specs.Prelude.{◌≡◌, ◌%◌, ◌<◌, ◌≤◌, Bool, List, length};
+ghost use Rattle.stages.specs.Sequence.{after, byte_of, key, keyed, loaded, lowest_bits, randomised, sums};
 
 use std::marker::Model;
 
@@ -40,16 +40,25 @@ impl Register {
     }
 }
 
-// Adds the sequence of a seed to a body, starting anew at every unit.
+// Adds the sequence of a seed to a unit.
+fn add_to_unit(seed: u16, part: &mut [u8])
+    requires { seed < 32768 }
+    ensures { part.new ≡ keyed (key seed) 0 part.old }
+{
+    let mut register = Register::loaded(seed);
+    for byte in part.iter_mut() {
+        *byte ^= register.next_key();
+    }
+}
+
+// Adds the sequence of a seed to a body of whole units, starting anew at every unit.
 pub(crate) fn add_sequence(seed: u16, unit: usize, body: &mut [u8])
     requires seed { seed < 32768 }
     requires unit { 1 ≤ unit }
+    requires whole { length body.old % unit ≡ 0 }
     ensures { body.new ≡ randomised seed unit body.old }
 {
-    for part in body.chunks_mut(unit) {
-        let mut register = Register::loaded(seed);
-        for byte in part.iter_mut() {
-            *byte ^= register.next_key();
-        }
+    for u in 0..body.len() / unit {
+        add_to_unit(seed, &mut body[u * unit..(u + 1) * unit]);
     }
 }

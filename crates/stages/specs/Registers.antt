@@ -141,7 +141,7 @@ loaded_holds seed = record {
 }
 
 module _ {y : ℕ} {reg : List Bool} (h : Holds y reg) where
-  pub held_below : y < 32768
+  held_below : y < 32768
   held_below = rw h.number (subst (λ n. held reg < 2 ^ n) h.stages (held_lt reg))
 
   pub key_is_sums : bit_and (bit_xor (y * 2 % 65536) y / 128) 255 ≡ byte_of (sums 8 reg)

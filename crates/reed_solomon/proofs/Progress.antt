@@ -1,12 +1,12 @@
 -- What one word adds, on either way.
-use Rattle.std.proofs.Common.{◌≡◌, ℕ, zero, suc, ◌+◌, ◌-◌, ◌*◌, ◌<◌, ◌≤◌, List, ◌++◌, length, take, drop, Some, None, Ok, Err, sym, ap, ◌∙◌, subst, ap₂, append_assoc, inl, inr, le_of_eq, le_refl, mul-le-mul, suc-mul, zero-add, add-one, arith, length-append, length-drop}
+use Rattle.std.proofs.Common.{◌≡◌, ℕ, zero, suc, ◌+◌, ◌-◌, ◌*◌, ◌<◌, ◌≤◌, List, ◌++◌, length, take, drop, Some, None, Ok, Err, sym, ap, ◌∙◌, subst, ap₂, inl, inr, le_of_eq, le_refl, mul-le-mul, suc-mul, zero-add, add-one, arith, length-append, length-drop}
 use borrow.Rule.Slice.PartMut.{mid_len, mid_of, put_mid}
 use Rattle.std.proofs.lemmas.Bool.{cases_lt}
 use Rattle.std.proofs.lemmas.List.{take_at, take_all, drop_at, drop-drop}
 use Rattle.std.proofs.lemmas.Slice.{take-put_mid}
 use Rattle.galois.specs.Bytes.{ByteField, FieldRule}
 use Rattle.outer.specs.declared.lanes.Row.{Row}
-use Rattle.outer.specs.Correction.{Repaired, Filled as FilledBehind}
+use Rattle.outer.specs.Correction.{Repaired}
 use Rattle.outer.specs.Encoder.{coefficient}
 use Rattle.outer.specs.Lanes.{Are}
 use Rattle.outer.specs.Nearest.{nearest}
@@ -56,11 +56,6 @@ all_read n w words xs all before most less = elim (cases_lt w words) [
   | inl b ↦ absurd (omega (arith, word_end w words n b, ap length before, length-drop (w * n) xs))
   | inr b ↦ omega arith
 ]
-
--- the check bytes behind the data that were copied
-pub filled_data : {rows : List Row} (xs w v : List ℕ) → take (length xs) w ≡ xs → length v ≡ length w → FilledBehind rows (length xs) w v → Filled rows xs v
-filled_data {rows} xs w v same kept filled f r rule are =
-    filled f r rule (subst (λ n. Are f (coefficient f r (n - length xs)) rows) kept are) ∙ ap₂ (λ n l. encoded f r (n - length xs) l) (sym kept) same
 
 module _ (f : ByteField) (r k e : ℕ) where
   -- a word that was filled is the code word

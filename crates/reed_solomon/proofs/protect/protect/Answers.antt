@@ -1,7 +1,4 @@
 -- What stands is protected.
-use Rattle.std.proofs.Common.{◌≡◌, ◌+◌, ◌*◌}
-use Rattle.reed_solomon.specs.declared.stage.ReedSolomon.{ReedSolomon}
-use Rattle.reed_solomon.specs.Bursts.{Protected}
 use Rattle.reed_solomon.proofs.Damage.{protects}
 use Rattle.reed_solomon.proofs.Judged.{limits_of}
 use Rattle.reed_solomon.proofs.protect.protect.Goals as goal

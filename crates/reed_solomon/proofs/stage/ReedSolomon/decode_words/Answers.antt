@@ -1,5 +1,5 @@
 -- Each chunk is the next word, and each turn reads one word more.
-use Rattle.std.proofs.Common.{◌≡◌, ◌+◌, ◌-◌, ◌*◌, ◌<◌, ◌≤◌, length, take, None, Ok, refl, ap, ◌∙◌, subst, zero-mul, arith, length-append}
+use Rattle.std.proofs.Common.{◌≡◌, ◌+◌, ◌-◌, ◌*◌, ◌≤◌, length, take, None, Ok, refl, ◌∙◌, subst, zero-mul, arith}
 use borrow.Rule.Slice.PartMut.{put_mid}
 use Rattle.outer.specs.Nearest.{nearest}
 use Rattle.reed_solomon.specs.Coding.{words_decoded}

@@ -1,7 +1,7 @@
 -- Each chunk is the next word, and each turn makes one code word more.
-use Rattle.std.proofs.Common.{◌≡◌, ◌+◌, ◌-◌, ◌*◌, ◌<◌, ◌≤◌, length, sym, refl, ap, ◌∙◌, zero-mul, arith, length-append}
+use Rattle.std.proofs.Common.{◌≡◌, ◌+◌, ◌*◌, ◌≤◌, length, refl, ap, ◌∙◌, zero-mul, arith}
 use Rattle.outer.specs.Words.{encoded}
-use Rattle.reed_solomon.specs.Coding.{word, words_encoded}
+use Rattle.reed_solomon.specs.Coding.{words_encoded}
 use Rattle.reed_solomon.proofs.Progress.{next_word, all_read, word_filled, encoded_more, encoded_all, long_part, within}
 use Rattle.reed_solomon.proofs.stage.ReedSolomon.encode_words.Goals as goal
 

@@ -146,19 +146,15 @@ impl<F: Field> Stage for ReedSolomon<F> {
 
     fn encode(&self, from: &mut [u8], to: &mut [u8]) {
         let generator = generator_multiples(&self.field, self.root, 2 * self.errors);
-        let upper = self.upper();
-        let lower = self.lower();
         clear(to);
-        self.encode_words(&generator, &from[0..upper], &mut to[0..lower]);
+        self.encode_words(&generator, &from[..self.upper()], &mut to[..self.lower()]);
         clear(from);
     }
 
     fn decode(&self, from: &mut [u8], to: &mut [u8]) -> Result<u32, Fault> {
         let roots = root_multiples(&self.field, self.root);
-        let upper = self.upper();
-        let lower = self.lower();
         clear(to);
-        let answer = self.decode_words(&roots, &mut from[0..lower], &mut to[0..upper]);
+        let answer = self.decode_words(&roots, &mut from[..self.lower()], &mut to[..self.upper()]);
         clear(from);
         if answer.is_err() {
             clear(to);

@@ -1,10 +1,12 @@
 -- What one word adds, on either way.
-use Rattle.std.proofs.Common.{◌≡◌, ℕ, zero, suc, ◌+◌, ◌-◌, ◌*◌, ◌<◌, ◌≤◌, List, ◌++◌, length, take, drop, Some, None, Ok, Err, sym, ap, ◌∙◌, subst, ap₂, append_assoc, le_of_eq, suc-mul, zero-add, add-one, arith, length-append}
-use borrow.Rule.Slice.PartMut.{post_of, put_mid, drop_put}
-use Rattle.std.proofs.lemmas.List.{take_at, take_all, drop-drop, length-take-le}
+use Rattle.std.proofs.Common.{◌≡◌, ℕ, zero, suc, ◌+◌, ◌-◌, ◌*◌, ◌<◌, ◌≤◌, List, ◌++◌, length, take, drop, Some, None, Ok, Err, sym, ap, ◌∙◌, subst, ap₂, inl, inr, le_of_eq, le_refl, mul-le-mul, suc-mul, zero-add, add-one, arith, length-append, length-drop}
+use borrow.Rule.Slice.PartMut.{mid_len, mid_of, put_mid}
+use Rattle.std.proofs.lemmas.Bool.{cases_lt}
+use Rattle.std.proofs.lemmas.List.{take_at, take_all, drop_at, drop-drop}
+use Rattle.std.proofs.lemmas.Slice.{take-put_mid}
 use Rattle.galois.specs.Bytes.{ByteField, FieldRule}
 use Rattle.outer.specs.declared.lanes.Row.{Row}
-use Rattle.outer.specs.Correction.{Repaired, Filled as FilledBehind}
+use Rattle.outer.specs.Correction.{Repaired}
 use Rattle.outer.specs.Encoder.{coefficient}
 use Rattle.outer.specs.Lanes.{Are}
 use Rattle.outer.specs.Nearest.{nearest}
@@ -14,36 +16,46 @@ use Rattle.stack.specs.declared.fault.Fault.TheVariants.{NoCodeWord}
 use Rattle.stack.specs.Meaning.{Corrected}
 use Rattle.reed_solomon.specs.Coding.{Limits, word, words_encoded, words_decoded, differing, with_word, then_word}
 use Rattle.reed_solomon.specs.WordByWord.{GeneratorRows, Filled, Corrects}
-use Rattle.reed_solomon.specs.Coded.{Answers, words_answer, small_product}
+use Rattle.reed_solomon.specs.Coded.{Answers, word_end, words_answer, small_product}
 
 -- one word more, as the code counts
 one_more : (w n : ℕ) → (w + 1) * n ≡ w * n + n
 one_more w n = ap (λ m. m * n) (add-one w) ∙ suc-mul w n
 
--- the bytes from the beginning of a word to its end
-pub part_word : (n w : ℕ) (xs : List ℕ) → take (w * n + n - w * n) (drop (w * n) xs) ≡ word n w xs
-part_word n w xs = ap (λ m. take m (drop (w * n) xs)) (omega arith)
+-- a word within a buffer of so many words
+pub within : (w words n : ℕ) → w < words → (w + 1) * n ≤ words * n
+within w words n h = omega (arith, one_more w n, word_end w words n h)
+
+-- it is as long as a word
+pub long_part : (n w : ℕ) (xs : List ℕ) → (w + 1) * n ≤ length xs → length (mid_of (w * n) ((w + 1) * n - w * n) xs) ≡ n
+long_part n w xs room = omega (arith, one_more w n, mid_len (w * n) ((w + 1) * n) xs room)
 
 -- a word written behind those before it
-pub take-written : (n w : ℕ) (xs v : List ℕ) → w * n + n ≤ length xs → length v ≡ n → take ((w + 1) * n) (put_mid (w * n) (w * n + n - w * n) xs v) ≡ take (w * n) xs ++ v
-take-written n w xs v room long =
-    let rest = post_of (w * n) (w * n + n - w * n) xs in
-    ap (take ((w + 1) * n)) (sym (append_assoc (take (w * n) xs) v rest))
-    ∙ take_at (take (w * n) xs ++ v) rest ((w + 1) * n) (omega (arith, length-append (take (w * n) xs) v, length-take-le (w * n) xs (omega arith), one_more w n))
+take-written : (n w : ℕ) (xs v : List ℕ) → (w + 1) * n ≤ length xs → length v ≡ n → take ((w + 1) * n) (put_mid (w * n) ((w + 1) * n - w * n) xs v) ≡ take (w * n) xs ++ v
+take-written n w xs v room long = take-put_mid (w * n) ((w + 1) * n - w * n) xs v ((w + 1) * n) (omega (arith, one_more w n)) (omega (arith, one_more w n))
 
--- the words behind it are left as they were
-pub drop-written : (n w : ℕ) (xs ys v : List ℕ) → w * n + n ≤ length xs → length v ≡ n → drop (w * n) xs ≡ drop (w * n) ys
-    → drop ((w + 1) * n) (put_mid (w * n) (w * n + n - w * n) xs v) ≡ drop ((w + 1) * n) ys
-drop-written n w xs ys v room long same =
-    ap (λ m. drop m (put_mid (w * n) (w * n + n - w * n) xs v)) (one_more w n)
-    ∙ drop_put (w * n) (w * n + n) xs v (omega arith) room (omega arith)
-    ∙ sym (drop-drop n (w * n) xs) ∙ ap (drop n) same ∙ drop-drop n (w * n) ys
-    ∙ ap (λ m. drop m ys) (sym (one_more w n))
+-- a chunk of the words from w on, and what is left behind it
+pub record NextWord (n w words : ℕ) (xs v behind : List ℕ) : Type 0 where
+  pub below : w < words
+  pub is : v ≡ word n w xs
+  pub left : behind ≡ drop ((w + 1) * n) xs
 
--- the check bytes behind the data that were copied
-pub filled_data : {rows : List Row} (xs w v : List ℕ) → take (length xs) w ≡ xs → length v ≡ length w → FilledBehind rows (length xs) w v → Filled rows xs v
-filled_data {rows} xs w v same kept filled f r rule are =
-    filled f r rule (subst (λ n. Are f (coefficient f r (n - length xs)) rows) kept are) ∙ ap₂ (λ n l. encoded f r (n - length xs) l) (sym kept) same
+pub next_word : (n w words : ℕ) (xs v behind : List ℕ) {rest : List ℕ} → 1 ≤ n → length xs ≡ words * n → rest ≡ drop (w * n) xs → rest ≡ v ++ behind → length v ≡ n → NextWord n w words xs v behind
+next_word n w words xs v behind low all before cut long = record {
+  below = elim (cases_lt w words) [
+    | inl b ↦ b
+    | inr b ↦ absurd (omega (arith, mul-le-mul b (le_refl n), ap length (sym cut ∙ before), length-append v behind, length-drop (w * n) xs))
+  ];
+  is = sym (take_at v behind n long) ∙ ap (take n) (sym cut ∙ before);
+  left = sym (drop_at v behind n long) ∙ ap (drop n) (sym cut ∙ before) ∙ drop-drop n (w * n) xs ∙ ap (λ m. drop m xs) (sym (one_more w n));
+}
+
+-- where no chunk is left, all words are read
+pub all_read : (n w words : ℕ) (xs : List ℕ) {rest : List ℕ} → length xs ≡ words * n → rest ≡ drop (w * n) xs → w ≤ words → length rest < n → w ≡ words
+all_read n w words xs all before most less = elim (cases_lt w words) [
+  | inl b ↦ absurd (omega (arith, word_end w words n b, ap length before, length-drop (w * n) xs))
+  | inr b ↦ omega arith
+]
 
 module _ (f : ByteField) (r k e : ℕ) where
   -- a word that was filled is the code word
@@ -53,8 +65,8 @@ module _ (f : ByteField) (r k e : ℕ) where
       filled f r rule (subst (λ c. Are f (coefficient f r c) rows) (sym checks) are) ∙ ap (λ c. encoded f r c xs) checks
 
   -- with one code word more written
-  pub encoded_more : (w : ℕ) (x to v : List ℕ) → w * (k + 2 * e) + (k + 2 * e) ≤ length to → length v ≡ k + 2 * e → v ≡ encoded f r (2 * e) (word k w x) → take (w * (k + 2 * e)) to ≡ words_encoded f r k e w x
-      → take ((w + 1) * (k + 2 * e)) (put_mid (w * (k + 2 * e)) (w * (k + 2 * e) + (k + 2 * e) - w * (k + 2 * e)) to v) ≡ words_encoded f r k e (w + 1) x
+  pub encoded_more : (w : ℕ) (x to v : List ℕ) → (w + 1) * (k + 2 * e) ≤ length to → length v ≡ k + 2 * e → v ≡ encoded f r (2 * e) (word k w x) → take (w * (k + 2 * e)) to ≡ words_encoded f r k e w x
+      → take ((w + 1) * (k + 2 * e)) (put_mid (w * (k + 2 * e)) ((w + 1) * (k + 2 * e) - w * (k + 2 * e)) to v) ≡ words_encoded f r k e (w + 1) x
   unfolding words_encoded
   encoded_more w x to v room long is before =
       take-written (k + 2 * e) w to v room long ∙ ap₂ ◌++◌ before is ∙ ap (λ i. words_encoded f r k e i x) (sym (add-one w))
@@ -76,17 +88,16 @@ module _ (f : ByteField) (r k e : ℕ) where
       }
 
   -- with the data of one word more
-  pub decoded_more : (w : ℕ) (y from to bytes : List ℕ) (count more : ℕ) → w * k + k ≤ length to → length bytes ≡ k → words_decoded f r k e w y ≡ Ok (record { body = take (w * k) to; count = count })
-      → drop (w * (k + 2 * e)) from ≡ drop (w * (k + 2 * e)) y → Corrects f r k e (word (k + 2 * e) w from) bytes more
-      → words_decoded f r k e (w + 1) y ≡ Ok (record { body = take ((w + 1) * k) (put_mid (w * k) (w * k + k - w * k) to bytes); count = count + more })
+  pub decoded_more : (w : ℕ) (y to bytes : List ℕ) (count more : ℕ) → (w + 1) * k ≤ length to → length bytes ≡ k → words_decoded f r k e w y ≡ Ok (record { body = take (w * k) to; count = count })
+      → Corrects f r k e (word (k + 2 * e) w y) bytes more
+      → words_decoded f r k e (w + 1) y ≡ Ok (record { body = take ((w + 1) * k) (put_mid (w * k) ((w + 1) * k - w * k) to bytes); count = count + more })
   unfolding words_decoded
-  decoded_more w y from to bytes count more room long before same it =
+  decoded_more w y to bytes count more room long before it =
       let v = word (k + 2 * e) w y in
-      let here : word (k + 2 * e) w from ≡ v = ap (take (k + 2 * e)) same in
       ap (λ i. words_decoded f r k e i y) (add-one w)
       ∙ ap (then_word (with_word w (differing f r e v) (nearest f r k e v))) before
-      ∙ ap (λ o. with_word w (differing f r e v) o (record { body = take (w * k) to; count = count })) (ap (nearest f r k e) (sym here) ∙ it.found)
-      ∙ ap₂ (λ b m. Ok (record { body = b; count = m })) (sym (take-written k w to bytes room long)) (ap (λ m. count + m) (ap (λ u. differing f r e u bytes) (sym here) ∙ sym it.counted))
+      ∙ ap (λ o. with_word w (differing f r e v) o (record { body = take (w * k) to; count = count })) it.found
+      ∙ ap₂ (λ b m. Ok (record { body = b; count = m })) (sym (take-written k w to bytes room long)) (ap (λ m. count + m) (sym it.counted))
 
   -- with the data of all words
   pub decoded_all : (words w : ℕ) (y to : List ℕ) (count : ℕ) → w ≡ words → length to ≡ words * k → words_decoded f r k e w y ≡ Ok (record { body = take (w * k) to; count = count })
@@ -104,17 +115,16 @@ module _ (f : ByteField) (r k e : ℕ) where
       ap (λ i. words_decoded f r k e i y) next ∙ ap (then_word (with_word (m + w) (differing f r e v) (nearest f r k e v))) (refused_stays w m y g q)
 
   -- a word with no near code word, behind words that have one
-  pub decoded_stops : (words w : ℕ) (y from : List ℕ) (d : Corrected) → w < words → words_decoded f r k e w y ≡ Ok d → drop (w * (k + 2 * e)) from ≡ drop (w * (k + 2 * e)) y → nearest f r k e (word (k + 2 * e) w from) ≡ None
+  pub decoded_stops : (words w : ℕ) (y : List ℕ) (d : Corrected) → w < words → words_decoded f r k e w y ≡ Ok d → nearest f r k e (word (k + 2 * e) w y) ≡ None
       → words_decoded f r k e words y ≡ Err (NoCodeWord w)
   unfolding words_decoded
-  decoded_stops words w y from d below before same none =
+  decoded_stops words w y d below before none =
       let v = word (k + 2 * e) w y in
-      let here : word (k + 2 * e) w from ≡ v = ap (take (k + 2 * e)) same in
       let count : words ≡ words - suc w + suc w = omega arith in
       ap (λ i. words_decoded f r k e i y) count
       ∙ refused_stays (suc w) (words - suc w) y (NoCodeWord w) (
       ap (then_word (with_word w (differing f r e v) (nearest f r k e v))) before
-      ∙ ap (λ o. with_word w (differing f r e v) o d) (ap (nearest f r k e) (sym here) ∙ none)
+      ∙ ap (λ o. with_word w (differing f r e v) o d) none
       )
 
 -- few bytes are corrected

@@ -1,8 +1,9 @@
 -- The Reed-Solomon stage keeps the stage rule.
-use Rattle.std.proofs.Common.{◌≡◌, ℕ, zero, suc, ◌+◌, ◌*◌, ◌<◌, ◌≤◌, Bool, List, [], ◌∷◌, ◌++◌, length, take, drop, replicate, Some, None, Ok, Err, Option, Result, unwrap_or, sym, refl, ap, ◌∙◌, subst, ap₂, inl, le_of_eq, le_refl, suc-mul, mul-le-mul, suc-add, zero-add, zero-mul, arith, length-append, length-drop}
+use Rattle.std.proofs.Common.{◌≡◌, ℕ, zero, suc, ◌+◌, ◌*◌, ◌<◌, ◌≤◌, Bool, List, ◌++◌, length, take, drop, replicate, Some, None, Ok, Err, Option, Result, unwrap_or, sym, refl, ap, ◌∙◌, subst, ap₂, inl, le_of_eq, le_refl, suc-mul, mul-le-mul, zero-mul, arith, length-append, length-drop}
 use native.Mathlib.Nat.{one-le-mul}
 use native.Mathlib.Decide.{ℕ_discrete}
 use lib.ListN.{length-replicate}
+use Rattle.std.proofs.Math.Seq.{take-add}
 use Rattle.std.proofs.lemmas.List.{drop_at, take-append-le, drop-append-le, length-take-le, take_all}
 use Rattle.galois.specs.Bytes.{ByteField, FieldRule}
 use Rattle.outer.specs.ByteLists.{Bytes}
@@ -27,15 +28,6 @@ more_words w n = suc-mul w n
 pub word_end : (w words n : ℕ) → w < words → w * n + n ≤ words * n
 word_end w words n h = subst (λ m. m ≤ words * n) (more_words w n) (mul-le-mul h (le_refl n))
 
-take_none : (n : ℕ) → take {A = ℕ} n [] ≡ []
-take_none zero = refl
-take_none (suc n) = refl
-
-take_plus : (m n : ℕ) (xs : List ℕ) → take m xs ++ take n (drop m xs) ≡ take (m + n) xs
-take_plus zero n xs = ap (λ i. take i xs) (sym (zero-add n))
-take_plus (suc m) n [] = ap₂ ◌++◌ (take_none (suc m)) (take_none n) ∙ sym (take_none (suc m + n))
-take_plus (suc m) n (x ∷ xs) = ap (λ l. x ∷ l) (take_plus m n xs) ∙ ap (λ i. take i (x ∷ xs)) (sym (suc-add m n))
-
 pub length-word : (n w : ℕ) (xs : List ℕ) → w * n + n ≤ length xs → length (word n w xs) ≡ n
 length-word n w xs h = length-take-le n (drop (w * n) xs) (omega (arith, length-drop (w * n) xs))
 
@@ -44,7 +36,7 @@ bytes_word n w xs h = bytes_take n (drop (w * n) xs) (bytes_drop (w * n) xs h)
 
 -- the words before w and word w
 pub take-word : (n w : ℕ) (xs : List ℕ) → take (w * n) xs ++ word n w xs ≡ take (suc w * n) xs
-take-word n w xs = take_plus (w * n) n xs ∙ ap (λ m. take m xs) (sym (more_words w n))
+take-word n w xs = sym (take-add (w * n) n xs) ∙ ap (λ m. take m xs) (sym (more_words w n))
 
 -- the check bytes are as many as they should be, whatever the data
 length_found : (c : ℕ) (found : Option (List ℕ)) → ((xs : List ℕ) → found ≡ Some xs → length xs ≡ c) → length (unwrap_or found (replicate c 0)) ≡ c

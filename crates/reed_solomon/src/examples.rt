@@ -2,8 +2,6 @@
 ghost use Rattle.reed_solomon.specs.Examples.{Examples};
 
 // The examples hold of what the stage means.
-pub fn examples_hold() -> bool
+pub fn examples_hold()
     ensures { Examples }
-{
-    true
-}
+{}

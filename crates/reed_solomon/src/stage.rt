@@ -30,6 +30,13 @@ pub struct ReedSolomon<F> {
     ghost room: { length + 2 * errors ≤ 255 },
 }
 
+// So many words of so many bytes, with their check bytes.
+#[derive(Clone, Copy, Debug, PartialEq, Eq)]
+pub struct Shape {
+    pub words: usize,
+    pub length: usize,
+}
+
 // Makes a code word of these data bytes.
 fn fill_word(generator: &Multiples, bytes: &[u8], word: &mut [u8])
     requires { (length bytes.now ≤ length word.old) × ((length word.old ≤ length bytes.now + 32) × (length word.old ≤ 255)) }
@@ -52,12 +59,9 @@ impl<F: Field + Drop> ReedSolomon<F> {
         ensures { MatchOption result (Limits root words length errors → ⊥) (λ s. (s.field ≡ field) × (s.root ≡ root) × (s.words ≡ words) × (s.length ≡ length) × (s.errors ≡ errors)) }
     {
         if root <= 254
-            && 1 <= words
-            && words <= 16
-            && 1 <= length
-            && length <= 255
-            && 1 <= errors
-            && errors <= 16
+            && (1..=16).contains(&words)
+            && (1..=255).contains(&length)
+            && (1..=16).contains(&errors)
             && length + 2 * errors <= 255
         {
             Some(ReedSolomon {
@@ -74,11 +78,14 @@ impl<F: Field + Drop> ReedSolomon<F> {
 }
 
 impl<F: Field> ReedSolomon<F> {
-    // The number of words, and the number of bytes of each with its check bytes.
-    pub fn shape(&self) -> (usize, usize)
-        ensures { (result.0 ≡ self.now.words) × (result.1 ≡ self.now.length + 2 * self.now.errors) }
+    // The number of code words, and the number of bytes of each.
+    pub fn shape(&self) -> Shape
+        ensures { (result.words ≡ self.now.words) × (result.length ≡ self.now.length + 2 * self.now.errors) }
     {
-        (self.words, self.length + 2 * self.errors)
+        Shape {
+            words: self.words,
+            length: self.length + 2 * self.errors,
+        }
     }
 
     // Makes a code word of the data of every word.
@@ -87,14 +94,9 @@ impl<F: Field> ReedSolomon<F> {
         requires lengths { (length from.now ≡ self.now.words * self.now.length) × (length to.old ≡ self.now.words * (self.now.length + 2 * self.now.errors)) }
         ensures { to.new ≡ words_encoded (F.Field.meaning self.now.field) self.now.root self.now.length self.now.errors self.now.words from.now }
     {
-        let k = self.length;
-        let n = k + 2 * self.errors;
-        for w in 0..self.words {
-            fill_word(
-                generator,
-                &from[w * k..w * k + k],
-                &mut to[w * n..w * n + n],
-            );
+        let n = self.length + 2 * self.errors;
+        for (w, bytes) in from.chunks_exact(self.length).enumerate() {
+            fill_word(generator, bytes, &mut to[w * n..(w + 1) * n]);
         }
     }
 
@@ -116,11 +118,9 @@ impl<F: Field> ReedSolomon<F> {
         ensures { WordsRead (words_decoded (F.Field.meaning self.now.field) self.now.root self.now.length self.now.errors self.now.words from.old) result to.new }
     {
         let k = self.length;
-        let n = k + 2 * self.errors;
         let mut count = 0;
-        for w in 0..self.words {
-            let word = &mut from[w * n..w * n + n];
-            let Some(more) = self.decode_word(roots, word, &mut to[w * k..w * k + k]) else {
+        for (w, word) in from.chunks_exact_mut(k + 2 * self.errors).enumerate() {
+            let Some(more) = self.decode_word(roots, word, &mut to[w * k..(w + 1) * k]) else {
                 return Err(Fault::NoCodeWord { word: w as u32 });
             };
             count += more;
@@ -146,19 +146,15 @@ impl<F: Field> Stage for ReedSolomon<F> {
 
     fn encode(&self, from: &mut [u8], to: &mut [u8]) {
         let generator = generator_multiples(&self.field, self.root, 2 * self.errors);
-        let upper = self.upper();
-        let lower = self.lower();
         clear(to);
-        self.encode_words(&generator, &from[0..upper], &mut to[0..lower]);
+        self.encode_words(&generator, &from[..self.upper()], &mut to[..self.lower()]);
         clear(from);
     }
 
     fn decode(&self, from: &mut [u8], to: &mut [u8]) -> Result<u32, Fault> {
         let roots = root_multiples(&self.field, self.root);
-        let upper = self.upper();
-        let lower = self.lower();
         clear(to);
-        let answer = self.decode_words(&roots, &mut from[0..lower], &mut to[0..upper]);
+        let answer = self.decode_words(&roots, &mut from[..self.lower()], &mut to[..self.upper()]);
         clear(from);
         if answer.is_err() {
             clear(to);

@@ -10,7 +10,7 @@ use Rattle.std.specs.Int.{reverse_bits_onto}
 use Rattle.std.proofs.lemmas.Nat.{and_mask, mod-pow-add, or_shifted, shr-shr}
 use Rattle.std.proofs.lemmas.List.FromFn.{fill_by_all}
 use Rattle.std.proofs.lemmas.Bool.Decides.{nat_tests}
-use Rattle.stages.specs.Sequence.{Holds, after, bit, byte_of, continued, feedback, held, last_bits, loaded, stepped, sums}
+use Rattle.stages.specs.Sequence.{Holds, after, bit, byte_of, continued, feedback, held, last_bits, lowest_bits, loaded, stepped, sums}
 
 bit_lt : (b : Bool) → bit b < 2
 bit_lt true = omega arith
@@ -165,3 +165,30 @@ module _ {y : ℕ} {reg : List Bool} (h : Holds y reg) where
         number = ap (λ n. bit_or n k) high ∙ or_shifted (y % 128) 8 k small ∙ (omega arith);
         stages = length-after 8 reg h.stages;
       }
+
+-- the lowest bits of a number hold it
+held-lowest : (n x : ℕ) → x < 2 ^ n → held (lowest_bits n x) ≡ x
+unfolding held lowest_bits
+held-lowest zero x h = omega arith
+held-lowest (suc n) x h = omega (arith, held-lowest n (x / 2) (omega (arith, pow-suc 2 n)), bit_odd x)
+
+length-lowest : (n x : ℕ) → length (lowest_bits n x) ≡ n
+unfolding lowest_bits
+length-lowest zero x = refl
+length-lowest (suc n) x = ap suc (length-lowest n (x / 2))
+
+bit_is : (b : Bool) → (bit b == 1) ≡ b
+bit_is true = refl
+bit_is false = refl
+
+-- and what a number holds are its lowest bits
+lowest-held : (reg : List Bool) → lowest_bits (length reg) (held reg) ≡ reg
+unfolding lowest_bits
+lowest-held [] = refl
+lowest-held (b ∷ reg) = ap₂ ◌∷◌ (ap (λ n. n == 1) (odd_held b reg) ∙ bit_is b) (ap (lowest_bits (length reg)) (half_held b reg) ∙ lowest-held reg)
+
+pub held_lowest : {y : ℕ} → y < 32768 → Holds y (lowest_bits 15 y)
+held_lowest {y} h = record { number = sym (held-lowest 15 y h); stages = length-lowest 15 y }
+
+pub lowest_held : {y : ℕ} {reg : List Bool} → Holds y reg → lowest_bits 15 y ≡ reg
+lowest_held {y} {reg} h = ap (lowest_bits 15) h.number ∙ ap (λ n. lowest_bits n (held reg)) (sym h.stages) ∙ lowest-held reg

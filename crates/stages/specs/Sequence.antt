@@ -64,6 +64,11 @@ unfoldable pub held : List Bool → ℕ
 held [] = 0
 held (b ∷ reg) = 2 * held reg + bit b
 
+-- the n lowest bits of a number, the lowest first
+unfoldable pub lowest_bits : ℕ → ℕ → List Bool
+lowest_bits zero x = []
+lowest_bits (suc n) x = (x % 2 == 1) ∷ lowest_bits n (x / 2)
+
 -- a number holds a register of fifteen stages
 pub record Holds (y : ℕ) (reg : List Bool) : Type 0 where
   pub number : y ≡ held reg

@@ -9,7 +9,7 @@ use stack::fault::Fault;
 use stack::stage::Stage;
 
 // Checks bodies of so many bytes.
-#[derive(Clone, Copy)]
+#[derive(Clone, Copy, Debug, PartialEq, Eq)]
 pub struct CheckByte {
     length: usize,
     ghost low: { 1 ≤ length },
@@ -21,7 +21,7 @@ impl CheckByte {
     pub fn new(length: usize) -> Option<CheckByte>
         ensures { MatchOption result ((1 ≤ length × length < 98304) → ⊥) (λ s. s.length ≡ length) }
     {
-        if 1 <= length && length < 98304 {
+        if (1..98_304).contains(&length) {
             Some(CheckByte { length })
         } else {
             None

@@ -2,8 +2,6 @@
 ghost use Rattle.stages.specs.Examples.{Examples};
 
 // The examples hold of what the stages mean.
-pub fn examples_hold() -> bool
+pub fn examples_hold()
     ensures { Examples }
-{
-    true
-}
+{}

@@ -21,10 +21,8 @@ impl Interleaver {
         ensures made { MatchOption result ((1 ≤ words) × (1 ≤ length) × (words * length ≤ 98304) → ⊥) (λ s. (s.block.rows ≡ words) × (s.block.columns ≡ length)) }
         ensures moves { ByteMoves words length }
     {
-        match Transpose::new(words, length) {
-            Some(block) => Some(Interleaver { block }),
-            None => None,
-        }
+        let block = Transpose::new(words, length)?;
+        Some(Interleaver { block })
     }
 }
 

@@ -11,7 +11,7 @@ use stack::fault::Fault;
 use stack::stage::Stage;
 
 // Randomises bodies of so many bytes, starting anew from the seed at every unit.
-#[derive(Clone, Copy)]
+#[derive(Clone, Copy, Debug, PartialEq, Eq)]
 pub struct Randomiser {
     seed: u16,
     unit: usize,
@@ -29,10 +29,8 @@ impl Randomiser {
     pub fn new(seed: u16, unit: usize, length: usize) -> Option<Randomiser>
         ensures { MatchOption result (Randomises seed unit length → ⊥) (λ s. (s.seed ≡ seed) × (s.unit ≡ unit) × (s.length ≡ length)) }
     {
-        if 1 <= seed
-            && seed < 32768
-            && 1 <= length
-            && length <= 98304
+        if (1..32_768).contains(&seed)
+            && (1..=98_304).contains(&length)
             && 1 <= unit
             && length % unit == 0
         {

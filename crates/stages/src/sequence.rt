@@ -1,46 +1,64 @@
 // The randomiser: a shift register's sequence added to a body.
-ghost use Rattle.std.specs.Prelude.{◌≡◌, ◌<◌, ◌≤◌, Bool, List};
-ghost use Rattle.stages.specs.Sequence.{Holds, after, byte_of, loaded, randomised, sums};
+ghost use Rattle.std.specs.Prelude.{◌≡◌, ◌%◌, ◌<◌, ◌≤◌, Bool, List, length};
+ghost use Rattle.stages.specs.Sequence.{after, byte_of, key, keyed, loaded, lowest_bits, randomised, sums};
 
-// The register with the stages of a seed, stage 1 as its lowest bit.
-fn load_register(seed: u16) -> u16
+use std::marker::Model;
+
+// A register of fifteen stages, stage 1 as the lowest bit.
+#[derive(Drop)]
+struct Register {
+    stages: u16,
+}
+
+impl Model for Register {
+    ghost Value = { List Bool };
+
+    ghost view = { λ r. lowest_bits 15 r.stages };
+
+    ghost invariant = { λ r. r.stages < 32768 };
+}
+
+impl Register {
+    // The register with the stages of a seed.
+    fn loaded(seed: u16) -> Register
+        requires { seed < 32768 }
+        ensures { result ≡ loaded seed }
+    {
+        Register {
+            stages: seed.reverse_bits() >> 1,
+        }
+    }
+
+    // Goes eight steps on; gives their sums, the first one as the highest bit.
+    fn next_key(&mut self) -> u8
+        ensures key { result ≡ byte_of (sums 8 self.old) }
+        ensures register { self.new ≡ after 8 self.old }
+    {
+        let key = ((((self.stages << 1) ^ self.stages) >> 7) & 0xff) as u8;
+        self.stages = ((self.stages & 0x7f) << 8) | u16::from(key);
+        key
+    }
+}
+
+// Adds the sequence of a seed to a unit.
+fn add_to_unit(seed: u16, part: &mut [u8])
     requires { seed < 32768 }
-    ensures { Holds result (loaded seed) }
+    ensures { part.new ≡ keyed (key seed) 0 part.old }
 {
-    seed.reverse_bits() >> 1
+    let mut register = Register::loaded(seed);
+    for byte in part.iter_mut() {
+        *byte ^= register.next_key();
+    }
 }
 
-// The next eight sums of a register, the first one as the highest bit.
-fn next_key(register: u16) -> u8
-    ensures { (reg : List Bool) → Holds register reg → result ≡ byte_of (sums 8 reg) }
-{
-    ((((register << 1) ^ register) >> 7) & 0xff) as u8
-}
-
-// The register eight steps on, into which the sums of these steps are shifted.
-fn advance(register: u16, key: u8) -> u16
-    ensures { (reg : List Bool) → Holds register reg → key ≡ byte_of (sums 8 reg) → Holds result (after 8 reg) }
-{
-    ((register & 0x7f) << 8) | u16::from(key)
-}
-
-// Adds the sequence of a seed to a body, starting anew at every unit.
+// Adds the sequence of a seed to a body of whole units, starting anew at every unit.
 pub(crate) fn add_sequence(seed: u16, unit: usize, body: &mut [u8])
     requires seed { seed < 32768 }
     requires unit { 1 ≤ unit }
+    requires whole { length body.old % unit ≡ 0 }
     ensures { body.new ≡ randomised seed unit body.old }
 {
-    let start = load_register(seed);
-    let mut register = start;
-    let mut at: usize = 0;
-    for byte in body.iter_mut() {
-        if at == unit {
-            at = 0;
-            register = start;
-        }
-        let key = next_key(register);
-        *byte ^= key;
-        register = advance(register, key);
-        at += 1;
+    for u in 0..body.len() / unit {
+        add_to_unit(seed, &mut body[u * unit..(u + 1) * unit]);
     }
 }

@@ -1,36 +1,21 @@
--- Each turn starts at the byte's place within its unit, with the register at that place.
-use Rattle.std.proofs.Common.{◌≡◌, ◌*◌, ◌%◌, ◌<◌, sym, refl, ap, ◌∙◌, arith}
-use Rattle.stages.specs.Sequence.{Holds, after, key, key_at, loaded, randomised}
-use Rattle.stages.specs.Sequences.{after_more, anew_place, keyed_all, keyed_more, next_place, same_place}
+-- Each turn makes one unit.
+use Rattle.std.proofs.Common.{◌+◌, ◌*◌, ◌≤◌, length, refl, sym, ◌∙◌, zero-mul, arith}
+use Rattle.stages.specs.Sequence.{key_at, randomised}
+use Rattle.stages.specs.Sequences.{keyed_all, unit_end, unit_more, units_all}
 use Rattle.stages.proofs.sequence.add_sequence.Goals as goal
-use Rattle.stages.proofs.sequence.add_sequence.Goals.{then-at-unit, else-at-unit}
 
-pub loop-byte-init : goal.loop-byte-init
-unfolding after randomised
-loop-byte-init c = (omega arith, refl, c.load_register-start.ensures, refl)
+pub loop-u-init : goal.loop-u-init
+unfolding randomised
+loop-u-init c = rw (zero-mul c.args.unit) refl
 
-pub loop-byte-preserved : goal.loop-byte-preserved
-unfolding after key key_at
-loop-byte-preserved c =
-    let at = c.if-at-unit.at in
-    let i = c.loop-byte.byte-index in
-    let unit = c.args.unit in
-    let before = after (8 * at) (loaded c.args.seed) in
-    let within : at < unit = elim c.if-at-unit.branch [ then-at-unit w ↦ omega (arith, w.at-is, c.requires.unit) | else-at-unit w ↦ omega (arith, w.at-is, w.if-at-unit.false) ] in
-    let place : at ≡ i % unit = elim c.if-at-unit.branch [
-      | then-at-unit w ↦ w.at-is ∙ anew_place _ i unit c.loop-byte.invariant.1 w.if-at-unit.true
-      | else-at-unit w ↦ w.at-is ∙ same_place _ i unit c.loop-byte.invariant.1 (omega (arith, w.if-at-unit.false))
-    ] in
-    let holds : Holds c.if-at-unit.register before = elim c.if-at-unit.branch [
-      | then-at-unit w ↦ simp (w.at-is, w.register-is) c.load_register-start.ensures
-      | else-at-unit w ↦ simp (w.at-is, w.register-is) c.loop-byte.invariant.2
-    ] in
-    let sum = c.next_key-key.ensures before holds in (
-      omega arith,
-      next_place at i unit place,
-      rw (← after_more at (loaded c.args.seed)) (c.advance-register.ensures before holds sum),
-      keyed_more (key_at c.args.seed unit) c.loop-byte.body i _ (omega arith) (sum ∙ ap (key c.args.seed) place) ∙ c.loop-byte.invariant.3,
-    )
+pub loop-u-preserved : goal.loop-u-preserved
+loop-u-preserved c =
+    let body = c.loop-u.body in
+    let within : (c.loop-u.u + 1) * c.args.unit ≤ length body = omega (arith, unit_end (length c.args.body.now) c.args.unit c.loop-u.u c.loop-u-test.true) in
+    unit_more c.args.seed c.args.unit c.loop-u.u body c.add_to_unit.new.part within c.add_to_unit.ensures ∙ c.loop-u.invariant
 
 pub returns : goal.returns
-returns c = sym (keyed_all (key_at c.args.seed c.args.unit) c.loop-byte.body c.loop-byte.byte-index (omega arith)) ∙ c.loop-byte.invariant.3
+returns c =
+    let n = length c.args.body.now in
+    let all : length c.loop-u.body ≤ c.loop-u.u * c.args.unit = omega (arith, units_all n c.args.unit c.loop-u.u c.requires.whole c.loop-u-test.false) in
+    sym (keyed_all (key_at c.args.seed c.args.unit) c.loop-u.body (c.loop-u.u * c.args.unit) all) ∙ c.loop-u.invariant

@@ -4,11 +4,6 @@ use Rattle.std.proofs.Common.{arith}
 use Rattle.reed_solomon.proofs.Progress.{repaired_data}
 use Rattle.reed_solomon.proofs.stage.ReedSolomon.decode_word.Goals as goal
 
-pub correct_word-requires : goal.correct_word-requires
-correct_word-requires g c =
-    let s = c.args.self.now in
-    record { sizes = record { some = s.errors_low; few = s.errors_high; fits = omega arith; short = omega arith; low = s.root_high }; roots = c.requires.rows }
-
 pub returns : goal.returns
 returns g c =
     repaired_data _ _ _ c.args.self.now.errors (omega arith) (simp sub-zero at c.copy_from_slice.ensures.after) c.in_ok-count.ensures

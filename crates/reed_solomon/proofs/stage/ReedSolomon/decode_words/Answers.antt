@@ -1,69 +1,87 @@
--- Every word is within its slice, and each turn reads one word more.
-use Rattle.std.proofs.Common.{◌≡◌, ◌+◌, ◌-◌, ◌*◌, ◌≤◌, length, take, None, Ok, sym, refl, ap, subst, zero-mul, arith}
-use borrow.Rule.Slice.PartMut.{put_mid, mid_len}
+-- Each chunk is the next word, and each turn reads one word more.
+use Rattle.std.proofs.Common.{◌≡◌, ◌+◌, ◌-◌, ◌*◌, ◌≤◌, length, take, None, Ok, refl, ◌∙◌, subst, zero-mul, arith}
+use borrow.Rule.Slice.PartMut.{put_mid}
 use Rattle.outer.specs.Nearest.{nearest}
 use Rattle.reed_solomon.specs.Coding.{words_decoded}
 use Rattle.reed_solomon.specs.WordByWord.{Corrects}
-use Rattle.reed_solomon.specs.Coded.{word_end}
 use Rattle.reed_solomon.proofs.Judged.{limits_of}
-use Rattle.reed_solomon.proofs.Progress.{part_word, drop-written, decoded_more, decoded_all, decoded_stops, count_small}
+use Rattle.reed_solomon.proofs.Progress.{next_word, all_read, decoded_more, decoded_all, decoded_stops, count_small, long_part, within}
 use Rattle.reed_solomon.proofs.stage.ReedSolomon.decode_words.Given as given
 use Rattle.reed_solomon.proofs.stage.ReedSolomon.decode_words.Goals as goal
 
 pub loop-w-init : goal.loop-w-init
 unfolding words_decoded
-loop-w-init g c = (ap (λ i. Ok (record { body = take i c.args.to.now; count = 0 })) (sym (zero-mul _)), refl)
-
-pub slice_bounds-word-end : goal.slice_bounds-word-end
-slice_bounds-word-end g c = omega (arith, word_end c.loop-w.w c.args.self.now.words (c.args.self.now.length + 2 * c.args.self.now.errors) (omega arith))
+loop-w-init g c =
+    rw (c.into_iter-w-iterator.ensures.into_iter_gives, c.enumerate-w-items.ensures.source, c.enumerate-w-items.ensures.count, zero-mul c.args.self.now.length, zero-mul (c.args.self.now.length + 2 * c.args.self.now.errors))
+    (c.chunks_exact_mut.ensures.size, omega arith, c.chunks_exact_mut.ensures.rest, refl)
 
 pub slice_bounds-decode_word-end : goal.slice_bounds-decode_word-end
-slice_bounds-decode_word-end g c = omega (arith, word_end c.loop-w.w c.args.self.now.words c.args.self.now.length (omega arith))
+slice_bounds-decode_word-end g c =
+    let s = c.args.self.now in
+    let n = s.length + 2 * s.errors in
+    let w = c.loop-w.w-iterator.count in
+    let step = c.in-Some.ensures.steps in
+    let inv = c.loop-w.invariant in
+    let next = next_word n w s.words c.args.from.now c.in-Some.word.now _ (omega (arith, s.data_low)) c.requires.lengths.0 inv.2 step.0.1.0 (step.0.1.1 ∙ inv.0) in
+    rw step.1 (omega (arith, within w s.words s.length next.below))
 
 pub returns-in_default : goal.returns-in_default
 returns-in_default g c =
     let s = c.args.self.now in
+    let n = s.length + 2 * s.errors in
+    let w = c.loop-w.w-iterator.count in
+    let step = c.in-Some.ensures.steps in
+    let inv = c.loop-w.invariant in
+    let next = next_word n w s.words c.args.from.now c.in-Some.word.now _ (omega (arith, s.data_low)) c.requires.lengths.0 inv.2 step.0.1.0 (step.0.1.1 ∙ inv.0) in
     let f = g.F.Field.meaning s.field in
-    decoded_stops f s.root s.length s.errors s.words c.loop-w.w c.args.from.now c.loop-w.from _ (omega arith) c.loop-w.invariant.0 c.loop-w.invariant.1
-    (subst (λ y. nearest f s.root s.length s.errors y ≡ None) (part_word (s.length + 2 * s.errors) c.loop-w.w c.loop-w.from) c.in_default.ensures)
+    rw step.1 (decoded_stops f s.root s.length s.errors s.words w c.args.from.now _ next.below inv.3 (subst (λ y. nearest f s.root s.length s.errors y ≡ None) next.is c.in_default.ensures))
 
 -- the words so far and this one
-read_more : (g : given.Over) (c : goal.In-Some g)
-    → words_decoded (g.F.Field.meaning c.args.self.now.field) c.args.self.now.root c.args.self.now.length c.args.self.now.errors (c.loop-w.w + 1) c.args.from.now
+read_more : (g : given.Over) (c : goal.In-Some-decode_word g)
+    → words_decoded (g.F.Field.meaning c.args.self.now.field) c.args.self.now.root c.args.self.now.length c.args.self.now.errors (c.loop-w.w-iterator.count + 1) c.args.from.now
     ≡ Ok (record {
-      body = take ((c.loop-w.w + 1) * c.args.self.now.length)
-          (put_mid (c.loop-w.w * c.args.self.now.length) (c.loop-w.w * c.args.self.now.length + c.args.self.now.length - c.loop-w.w * c.args.self.now.length) c.loop-w.to c.decode_word.new.data);
-      count = c.loop-w.count + c.in-Some.more;
+      body = take ((c.loop-w.w-iterator.count + 1) * c.args.self.now.length)
+          (put_mid (c.loop-w.w-iterator.count * c.args.self.now.length) ((c.loop-w.w-iterator.count + 1) * c.args.self.now.length - c.loop-w.w-iterator.count * c.args.self.now.length) c.loop-w.to c.decode_word.new.data);
+      count = c.loop-w.count + c.in-Some-decode_word.more;
     })
 read_more g c =
     let s = c.args.self.now in
-    let w = c.loop-w.w in
+    let n = s.length + 2 * s.errors in
+    let w = c.loop-w.w-iterator.count in
+    let step = c.in-Some.ensures.steps in
+    let inv = c.loop-w.invariant in
+    let next = next_word n w s.words c.args.from.now c.in-Some.word.now _ (omega (arith, s.data_low)) c.requires.lengths.0 inv.2 step.0.1.0 (step.0.1.1 ∙ inv.0) in
     let k = s.length in
     let f = g.F.Field.meaning s.field in
-    let room : w * k + k ≤ length c.loop-w.to = omega (arith, word_end w s.words k (omega arith)) in
-    decoded_more f s.root k s.errors w c.args.from.now c.loop-w.from c.loop-w.to c.decode_word.new.data c.loop-w.count c.in-Some.more room
-    (omega (arith, c.decode_word.auto.data, mid_len (w * k) (w * k + k) c.loop-w.to room)) c.loop-w.invariant.0 c.loop-w.invariant.1
-    (subst (λ y. Corrects f s.root k s.errors y c.decode_word.new.data c.in-Some.more) (part_word (k + 2 * s.errors) w c.loop-w.from) c.in-Some.ensures)
+    let room : (w + 1) * k ≤ length c.loop-w.to = omega (arith, within w s.words k next.below) in
+    decoded_more f s.root k s.errors w c.args.from.now c.loop-w.to c.decode_word.new.data c.loop-w.count c.in-Some-decode_word.more room
+    (c.decode_word.auto.data ∙ long_part k c.in-Some.w c.loop-w.to (rw step.1 room)) inv.3
+    (subst (λ y. Corrects f s.root k s.errors y c.decode_word.new.data c.in-Some-decode_word.more) next.is c.in-Some-decode_word.ensures)
 
 pub overflow_add-count : goal.overflow_add-count
 overflow_add-count g c =
     let s = c.args.self.now in
-    omega (
-      arith,
-      count_small _ (g.met.F.Field.rule _) s.root s.words s.length s.errors (limits_of s) (c.loop-w.w + 1) c.args.from.now _ (omega arith) (omega arith) (read_more g c),
-    )
+    let n = s.length + 2 * s.errors in
+    let w = c.loop-w.w-iterator.count in
+    let step = c.in-Some.ensures.steps in
+    let inv = c.loop-w.invariant in
+    let next = next_word n w s.words c.args.from.now c.in-Some.word.now _ (omega (arith, s.data_low)) c.requires.lengths.0 inv.2 step.0.1.0 (step.0.1.1 ∙ inv.0) in
+    omega (arith, count_small _ (g.met.F.Field.rule _) s.root s.words s.length s.errors (limits_of s) (w + 1) c.args.from.now _ (omega (arith, next.below)) (omega arith) (read_more g c))
 
 pub loop-w-preserved : goal.loop-w-preserved
 loop-w-preserved g c =
     let s = c.args.self.now in
-    let w = c.loop-w.w in
     let n = s.length + 2 * s.errors in
-    let room : w * n + n ≤ length c.loop-w.from = omega (arith, word_end w s.words n (omega arith)) in (
-      read_more g c,
-      drop-written n w c.loop-w.from c.args.from.now c.decode_word.new.word room (omega (arith, c.decode_word.auto.word, mid_len (w * n) (w * n + n) c.loop-w.from room)) c.loop-w.invariant.1,
-    )
+    let w = c.loop-w.w-iterator.count in
+    let step = c.in-Some.ensures.steps in
+    let inv = c.loop-w.invariant in
+    let next = next_word n w s.words c.args.from.now c.in-Some.word.now _ (omega (arith, s.data_low)) c.requires.lengths.0 inv.2 step.0.1.0 (step.0.1.1 ∙ inv.0) in
+    rw (step.2, step.1) (step.0.0 ∙ inv.0, omega (arith, next.below), next.left, read_more g c)
 
 pub returns : goal.returns
 returns g c =
     let s = c.args.self.now in
-    decoded_all _ s.root s.length s.errors s.words c.loop-w.w c.args.from.now c.loop-w.to c.loop-w.count (omega arith) (omega arith) c.loop-w.invariant.0
+    let it = c.loop-w.w-iterator in
+    let inv = c.loop-w.invariant in
+    decoded_all _ s.root s.length s.errors s.words it.count c.args.from.now c.loop-w.to c.loop-w.count
+    (all_read (s.length + 2 * s.errors) it.count s.words c.args.from.now c.requires.lengths.0 inv.2 inv.1 (omega (arith, c.in-None.ensures.steps.0.1.0, inv.0))) (omega arith) inv.3

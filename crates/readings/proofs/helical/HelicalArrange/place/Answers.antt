@@ -1,8 +1,9 @@
-use Rattle.std.proofs.Common.{rules, ◌≡◌, ℕ, ◌*◌, ◌≤◌, MatchOption, ◌+◌, ◌-◌, ◌<◌, length, ◌/◌, ◌%◌, Bool, true, false, nat_eq, nat_lt, List, [], ◌∷◌, ◌++◌, slice_index_or, slice_set, bit_and, bit_or, Fits, w8, w32, w64, Bor, MutBor}
-use Rattle.readings.specs.Helix.{helix}
-use Rattle.readings.specs.Winding.{helix_rearranges}
+-- The place is the one that the helical rule gives.
+use Rattle.std.proofs.Common.{◌+◌, ◌*◌, ◌%◌, sym, ap₂, ◌∙◌}
+use Rattle.readings.specs.Winding.{wound-at}
 use Rattle.readings.proofs.helical.HelicalArrange.place.Goals as goal
 
--- src/helical.rt:48:5
 pub returns : goal.returns
-returns c = ?
+returns c =
+    let grid = c.args.self.now.grid in
+    ap₂ (λ a b. b * ((3 * c.args.column + c.args.row) % a) + c.args.column) c.rows.ensures c.columns.ensures ∙ sym (wound-at grid.rows grid.columns c.args.row c.args.column c.requires.1)

@@ -7,7 +7,7 @@ use crate::arrange::Arrange;
 use crate::grid::Grid;
 
 // Words written one below the other and sent column after column, at most 98,304 elements in all.
-#[derive(Clone, Copy)]
+#[derive(Clone, Copy, Debug, PartialEq, Eq)]
 pub struct Transpose {
     grid: Grid,
 }

@@ -7,7 +7,7 @@ use permutation::arrange::Arrange;
 use permutation::grid::Grid;
 
 // Rows in which each column is turned down three rows farther than the one before, at most 98,304 elements in all.
-#[derive(Clone, Copy)]
+#[derive(Clone, Copy, Debug, PartialEq, Eq)]
 pub struct Helical {
     grid: Grid,
 }

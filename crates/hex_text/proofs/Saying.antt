@@ -1,7 +1,8 @@
 -- The text that bytes are written as, and the bytes that a text says.
-use Rattle.std.proofs.Common.{◌≡◌, ℕ, zero, suc, ◌+◌, ◌*◌, ◌/◌, ◌%◌, ◌<◌, true, List, [], ◌∷◌, ◌++◌, length, get_or, take, is_some, Some, sym, refl, ap, ◌∙◌, inl, inr, arith, below_more}
+use Rattle.std.proofs.Common.{◌≡◌, ℕ, zero, suc, ◌+◌, ◌*◌, ◌/◌, ◌%◌, ◌<◌, true, List, [], ◌∷◌, ◌++◌, length, get_or, take, drop, is_some, Some, sym, refl, ap, ◌∙◌, inl, inr, arith, below_more}
 use lib.Utf8.{encode}
-use Rattle.std.proofs.lemmas.List.{take_more, ext_get_or, get_or_append_left, get_or_push}
+use Rattle.std.proofs.lemmas.List.{take_more, ext_get_or, get_or_append_left, get_or_push, get_or-take, get_or-drop}
+use Rattle.std.specs.Simd.{first_chunks}
 use Rattle.std.proofs.lemmas.Bool.{cases_lt}
 use Rattle.std.proofs.lemmas.Str.{encode_ascii}
 use Rattle.hex_text.specs.declared.HexError.{HexError}
@@ -47,6 +48,20 @@ written_says bs small = record { twice = length-written bs; digits = written_pai
 -- one byte more
 pub pairs_more : (t xs : List ℕ) (i b : ℕ) → length xs ≡ i → Pairs t xs i → Pair (get_or t (2 * i) 0) (get_or t (2 * i + 1) 0) b → Pairs t (xs ++ b ∷ []) (i + 1)
 pairs_more t xs i b e said here = below_more _ _ (λ k h. let l : k < length xs = omega arith in rw get_or_append_left (said k h)) (rw get_or_push here)
+
+-- character j of piece i, of a text cut into pieces of two, is character 2 * i + j
+chunk-at : (k : ℕ) (t : List ℕ) (i j : ℕ) → i < k → j < 2 → get_or (get_or (first_chunks 2 k t) i []) j 0 ≡ get_or t (2 * i + j) 0
+chunk-at zero t i j h l = absurd (omega arith)
+chunk-at (suc k) t zero j h l = get_or-take 2 t j 0 l ∙ ap (λ n. get_or t n 0) (omega arith)
+chunk-at (suc k) t (suc i) j h l = chunk-at k (drop 2 t) i j (omega arith) l ∙ get_or-drop 2 t (2 * i + j) 0 ∙ ap (λ n. get_or t n 0) (omega arith)
+
+-- the first character of pair i is character 2 * i of the text
+pub high-at : {k : ℕ} {pairs : List (List ℕ)} (t : List ℕ) (i : ℕ) → pairs ≡ first_chunks 2 k t → i < k → get_or (get_or pairs i []) 0 0 ≡ get_or t (2 * i) 0
+high-at {k = k} t i e h = ap (λ ps. get_or (get_or ps i []) 0 0) e ∙ chunk-at k t i 0 h (omega arith) ∙ ap (λ n. get_or t n 0) (omega arith)
+
+-- the second is the one after it
+pub low-at : {k : ℕ} {pairs : List (List ℕ)} (t : List ℕ) (i : ℕ) → pairs ≡ first_chunks 2 k t → i < k → get_or (get_or pairs i []) 1 0 ≡ get_or t (2 * i + 1) 0
+low-at {k = k} t i e h = ap (λ ps. get_or (get_or ps i []) 1 0) e ∙ chunk-at k t i 1 h (omega arith)
 
 same_byte : (high low a b : ℕ) → Pair high low a → Pair high low b → a ≡ b
 same_byte high low a b p q =

@@ -11,7 +11,7 @@ use std::error::Error;
 use std::fmt;
 
 // Why a text is not bytes in hex.
-#[derive(Debug, Drop)]
+#[derive(Clone, Copy, Debug, PartialEq, Eq)]
 pub enum HexError {
     // An odd number of digits.
     Odd,
@@ -65,23 +65,14 @@ fn letter_of(value: u8) -> char
     requires { value < 16 }
     ensures { result ≡ letter value }
 {
-    if value < 10 {
-        char::from(b'0' + value)
-    } else {
-        char::from(b'a' + (value - 10))
-    }
+    char::from_digit(u32::from(value), 16).unwrap()
 }
 
 // The place of the first character that is no digit.
 fn first_not_digit(text: &[u8]) -> Option<usize>
     ensures { MatchOption result (Leads text.now (length text.now)) (NoDigitAt text.now) }
 {
-    for (i, c) in text.iter().enumerate() {
-        if digit_of(*c).is_none() {
-            return Some(i);
-        }
-    }
-    None
+    text.iter().position(|c| digit_of(*c).is_none())
 }
 
 // The byte that two digits say.
@@ -99,10 +90,10 @@ fn pack(heap: Global, text: &[u8]) -> Result<Vec<u8>, HexError>
     requires even { length text.now % 2 ≡ 0 }
     ensures { MatchResult result (λ v. Says text.now v.items) (λ e. e ≡ Memory) }
 {
-    let count = text.len() / 2;
-    let mut bytes = Vec::with_capacity(heap, count)?;
-    for i in 0..count {
-        bytes.push(pair(text[2 * i], text[2 * i + 1]))?;
+    let (pairs, _) = text.as_chunks::<2>();
+    let mut bytes = Vec::with_capacity(heap, pairs.len())?;
+    for [high, low] in pairs {
+        bytes.push(pair(*high, *low))?;
     }
     Ok(bytes)
 }

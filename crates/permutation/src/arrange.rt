@@ -31,8 +31,8 @@ pub fn place_run<T: Copy, P: Arrange>(rule: &P, row: usize, column: usize, from:
     requires written { length to.old ≡ size (P.Arrange.meaning rule.now) }
     ensures { PlacedRun (P.Arrange.meaning rule.now).place (row * (P.Arrange.meaning rule.now).columns + column) from.now to.old to.new }
 {
-    for k in 0..from.len() {
-        to[rule.place(row, column + k)] = from[k];
+    for (k, value) in from.iter().enumerate() {
+        to[rule.place(row, column + k)] = *value;
     }
 }
 
@@ -56,8 +56,8 @@ pub fn take_run<T: Copy, P: Arrange>(rule: &P, row: usize, column: usize, from: 
     requires read { length from.now ≡ size (P.Arrange.meaning rule.now) }
     ensures { TakenRun (P.Arrange.meaning rule.now).place (row * (P.Arrange.meaning rule.now).columns + column) (length to.new) from.now to.new }
 {
-    for k in 0..to.len() {
-        to[k] = from[rule.place(row, column + k)];
+    for (k, value) in to.iter_mut().enumerate() {
+        *value = from[rule.place(row, column + k)];
     }
 }
 

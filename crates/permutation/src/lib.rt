@@ -2,4 +2,5 @@
 #![tactic(auto)]
 
 pub mod arrange;
+pub mod grid;
 pub mod transpose;

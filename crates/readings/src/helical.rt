@@ -1,57 +1,51 @@
-// The helical rule, with its rows and columns.
+// The helical rule, over the grid of its rows.
 ghost use Rattle.std.specs.Prelude.{◌≡◌, ℕ, ◌*◌, ◌≤◌, MatchOption};
 ghost use Rattle.readings.specs.Helix.{helix};
 ghost use Rattle.readings.specs.Winding.{helix_rearranges};
 
 use permutation::arrange::Arrange;
+use permutation::grid::Grid;
 
 // Rows in which each column is turned down three rows farther than the one before, at most 98,304 elements in all.
-#[derive(Clone, Copy)]
+#[derive(Clone, Copy, Debug, PartialEq, Eq)]
 pub struct Helical {
-    a: usize,
-    b: usize,
-    ghost tall: { 1 ≤ a },
-    ghost wide: { 1 ≤ b },
-    ghost small: { a * b ≤ 98304 },
+    grid: Grid,
 }
 
 impl Helical {
-    // The rule for `a` rows of `b` elements, if they have from 1 to 98,304 elements.
-    pub fn new(a: usize, b: usize) -> Option<Helical>
-        ensures { MatchOption result ((1 ≤ a) × (1 ≤ b) × (a * b ≤ 98304) → ⊥) (λ h. (h.a ≡ a) × (h.b ≡ b)) }
+    // The rule for so many rows and columns, if they have from 1 to 98,304 elements.
+    pub fn new(rows: usize, columns: usize) -> Option<Helical>
+        ensures { MatchOption result ((1 ≤ rows) × (1 ≤ columns) × (rows * columns ≤ 98304) → ⊥) (λ h. (h.grid.rows ≡ rows) × (h.grid.columns ≡ columns)) }
     {
-        match a.checked_mul(b) {
-            Some(1..=98_304) => Some(Helical { a, b }),
-            _ => None,
-        }
+        Grid::new(rows, columns).map(|grid| Helical { grid })
     }
 
     // The number of elements.
     pub fn len(&self) -> usize
-        ensures { result ≡ self.now.a * self.now.b }
+        ensures { result ≡ self.now.grid.rows * self.now.grid.columns }
     {
-        self.a * self.b
+        self.grid.len()
     }
 }
 
 // The helical rule as a rule of rearrangement.
 impl Arrange for Helical {
-    ghost meaning = { λ h. helix h.a h.b };
+    ghost meaning = { λ h. helix h.grid.rows h.grid.columns };
 
-    ghost permutes = { λ h. helix_rearranges h.a h.b h.tall h.wide };
+    ghost permutes = { λ h. helix_rearranges h.grid.rows h.grid.columns h.grid.tall h.grid.wide };
 
     // The number of rows.
     fn rows(&self) -> usize {
-        self.a
+        self.grid.rows()
     }
 
     // The number of elements in a row.
     fn columns(&self) -> usize {
-        self.b
+        self.grid.columns()
     }
 
     // The column stays, and the row turns down by three for each column.
     fn place(&self, row: usize, column: usize) -> usize {
-        self.b * ((3 * column + row) % self.a) + column
+        self.grid.columns() * ((3 * column + row) % self.grid.rows()) + column
     }
 }

@@ -3,5 +3,5 @@ use Rattle.std.proofs.Common.{◌≡◌, vec_items, vec_len}
 use Rattle.hex_text.specs.Digits.{Pairs}
 use Rattle.hex_text.proofs.pack.Given as goal
 
-abbrev pub invariant-loop-i : goal.invariant-loop-i
-invariant-loop-i l = (vec_len l.bytes ≡ l.i) × Pairs l.text (vec_items l.bytes) l.i
+abbrev pub invariant-loop-high : goal.invariant-loop-high
+invariant-loop-high l = (vec_len l.bytes ≡ l.high-index) × Pairs l.text (vec_items l.bytes) l.high-index

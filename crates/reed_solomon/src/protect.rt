@@ -14,7 +14,7 @@ pub fn protect<F: Field + Drop, C: Carrier>(
     code: ReedSolomon<F>,
     carrier: C,
 ) -> Result<Stack<ReedSolomon<F>, Stack<Interleaver, C>>, Unstacked<ReedSolomon<F>, C>>
-    ensures made { MatchResult result (λ p. (p.stage ≡ code) × (p.carrier.stage.block.rows ≡ code.words) × (p.carrier.stage.block.columns ≡ code.length + 2 * code.errors) × (p.carrier.carrier ≡ carrier) × (C.Carrier.fits carrier → Stands (C.Carrier.fits p.carrier.carrier) (F.Field.meaning p.stage.field) p.stage.root p.stage.words p.stage.length p.stage.errors p.carrier.stage.block.rows p.carrier.stage.block.columns (C.Carrier.meaning p.carrier.carrier))) (λ u. (u.stage ≡ code) × (u.carrier ≡ carrier) × (C.Carrier.fits carrier → Apart code.words code.length code.errors (C.Carrier.meaning carrier))) }
+    ensures made { MatchResult result (λ p. (p.stage ≡ code) × (p.carrier.stage.block.grid.rows ≡ code.words) × (p.carrier.stage.block.grid.columns ≡ code.length + 2 * code.errors) × (p.carrier.carrier ≡ carrier) × (C.Carrier.fits carrier → Stands (C.Carrier.fits p.carrier.carrier) (F.Field.meaning p.stage.field) p.stage.root p.stage.words p.stage.length p.stage.errors p.carrier.stage.block.grid.rows p.carrier.stage.block.grid.columns (C.Carrier.meaning p.carrier.carrier))) (λ u. (u.stage ≡ code) × (u.carrier ≡ carrier) × (C.Carrier.fits carrier → Apart code.words code.length code.errors (C.Carrier.meaning carrier))) }
     ensures protected { C.Carrier.fits carrier → (C.Carrier.meaning carrier).body ≡ code.words * (code.length + 2 * code.errors) → Protected (F.Field.meaning code.field) code.root code.words code.length code.errors (C.Carrier.meaning carrier) }
 {
     let Shape { words, length } = code.shape();

@@ -10,7 +10,7 @@ use stack::fault::Fault;
 use stack::stage::Stage;
 
 // Interleaves so many words of so many bytes, one after another.
-#[derive(Clone, Copy)]
+#[derive(Clone, Copy, Debug, PartialEq, Eq)]
 pub struct Interleaver {
     block: Transpose,
 }
@@ -18,7 +18,7 @@ pub struct Interleaver {
 impl Interleaver {
     // An interleaver of words that are together 1 to 98,304 bytes long.
     pub fn new(words: usize, length: usize) -> Option<Interleaver>
-        ensures made { MatchOption result ((1 ≤ words) × (1 ≤ length) × (words * length ≤ 98304) → ⊥) (λ s. (s.block.rows ≡ words) × (s.block.columns ≡ length)) }
+        ensures made { MatchOption result ((1 ≤ words) × (1 ≤ length) × (words * length ≤ 98304) → ⊥) (λ s. (s.block.grid.rows ≡ words) × (s.block.grid.columns ≡ length)) }
         ensures moves { ByteMoves words length }
     {
         let block = Transpose::new(words, length)?;
@@ -27,9 +27,9 @@ impl Interleaver {
 }
 
 impl Stage for Interleaver {
-    ghost meaning = { λ s. interleaving s.block.rows s.block.columns };
+    ghost meaning = { λ s. interleaving s.block.grid.rows s.block.grid.columns };
 
-    ghost rule = { λ s. interleaving_rule s.block.rows s.block.columns s.block.tall s.block.wide s.block.small };
+    ghost rule = { λ s. interleaving_rule s.block.grid.rows s.block.grid.columns s.block.grid.tall s.block.grid.wide s.block.grid.small };
 
     fn upper(&self) -> usize {
         self.block.len()

@@ -6,51 +6,36 @@ ghost use Rattle.outer.specs.Cutting.{always, Scales, Scaled, Moved, MovedOn, Ap
 use super::encoder::NEXT;
 use super::lanes::{Multiples, Row};
 use galois::field::Field;
+use std::array;
 use std::simd::prelude::*;
 
 // The multiples of one constant in every lane.
 pub fn scalar_multiples<F: Field>(field: &F, k: u8) -> Multiples
     ensures { Are (F.Field.meaning field.now) (always k) result.rows }
 {
-    let mut rows = [Row {
-        lanes: u8x32::splat(0),
-    }; 8];
-    for i in 0..8 {
-        rows[i] = Row {
+    Multiples {
+        rows: array::from_fn(|i| Row {
             lanes: u8x32::splat(field.mul(k, 1 << i)),
-        };
+        }),
     }
-    Multiples { rows }
 }
 
 // The multiples of the bytes 1, 2, 4, .. , 128, each in every lane.
 pub fn scales<F: Field>(field: &F) -> [Multiples; 8]
     ensures { Scales (F.Field.meaning field.now) result }
 {
-    let mut scales = [Multiples {
-        rows: [Row {
-            lanes: u8x32::splat(0),
-        }; 8],
-    }; 8];
-    for i in 0..8 {
-        scales[i] = scalar_multiples(field, 1 << i);
-    }
-    scales
+    array::from_fn(|i| scalar_multiples(field, 1 << i))
 }
 
 // The multiples of a vector's bytes, a row at once.
 pub fn lane_multiples(scales: &[Multiples; 8], v: u8x32) -> Multiples
     ensures { Scaled scales.now v result.rows }
 {
-    let mut rows = [Row {
-        lanes: u8x32::splat(0),
-    }; 8];
-    for i in 0..8 {
-        rows[i] = Row {
+    Multiples {
+        rows: array::from_fn(|i| Row {
             lanes: scales[i].times(v),
-        };
+        }),
     }
-    Multiples { rows }
 }
 
 // All lanes move on by one, and a zero comes last.
@@ -64,15 +49,11 @@ pub fn moved(v: u8x32) -> u8x32
 fn next_lanes(constants: &Multiples) -> Multiples
     ensures { MovedOn constants.now.rows result.rows }
 {
-    let mut rows = [Row {
-        lanes: u8x32::splat(0),
-    }; 8];
-    for i in 0..8 {
-        rows[i] = Row {
-            lanes: moved(constants.rows[i].lanes),
-        };
+    Multiples {
+        rows: constants.rows.map(|row| Row {
+            lanes: moved(row.lanes),
+        }),
     }
-    Multiples { rows }
 }
 
 // A polynomial, applied to the constants: the products of all lanes, summed.
@@ -96,13 +77,7 @@ fn power(b: usize) -> u8x32
 fn powers() -> [Row; 17]
     ensures { Powers result }
 {
-    let mut powers = [Row {
-        lanes: u8x32::splat(0),
-    }; 17];
-    for b in 0..17 {
-        powers[b] = Row { lanes: power(b) };
-    }
-    powers
+    array::from_fn(|b| Row { lanes: power(b) })
 }
 
 // The first of n polynomials that does not give 0, or n if all do.

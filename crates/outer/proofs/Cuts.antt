@@ -231,6 +231,24 @@ module _ (f : ByteField) where
                 (λ d. sum-lane a was.place d (omega arith) few (was.zeros (a + 1) (omega arith)) (was.zeros b (omega arith)));
           }
 
+  -- only the polynomials that are left count
+  pub cut_same : (e : ℕ) (s : List ℕ) (j n : ℕ) (ps qs : List Row) → ((b : ℕ) → b < n → polynomial ps b ≡ polynomial qs b) → Cut f e s j n ps → Cut f e s j n qs
+  cut_same e s j n ps qs same cut = record {
+    few = cut.few;
+    left = cut.left;
+    vectors = λ b h. subst (λ p. Vector p) (same b h) (cut.vectors b h);
+    degree = λ b l h m few. subst (λ p. lane p l ≡ 0) (same b h) (cut.degree b l h m few);
+    meets = λ b i h m. subst (λ p. applied f p s i ≡ 0) (same b h) (cut.meets b i h m);
+    leads = λ b h.
+        let it = cut.leads b h in
+        record {
+          place = it.place;
+          low = it.low;
+          one = subst (λ p. lane p it.place ≡ 1) (same b h) it.one;
+          zeros = λ a m. subst (λ p. lane p it.place ≡ 0) (same a (omega arith)) (it.zeros a m);
+        };
+  }
+
   -- the powers of x, before any equation
   pub cut_powers : (e : ℕ) (s : List ℕ) (ps : List Row) → e ≤ 16 → Powers ps → Cut f e s 0 (e + 1) ps
   cut_powers e s ps he powers = record {

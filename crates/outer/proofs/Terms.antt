@@ -1,5 +1,5 @@
 -- The terms of a polynomial at a place, and at the next.
-use Rattle.std.proofs.Common.{◌≡◌, ℕ, zero, suc, ◌+◌, ◌-◌, ◌*◌, ◌%◌, ◌<◌, ◌≤◌, Bool, true, false, cond, eqb, List, [], ◌∷◌, ◌++◌, length, get_or, take, filter, sym, refl, ap, ◌∙◌, subst, ap₂, add-zero, add-mul, one-mul, mul-zero, mul-add, arith, length-append}
+use Rattle.std.proofs.Common.{◌≡◌, ℕ, zero, suc, ◌+◌, ◌-◌, ◌*◌, ◌%◌, ◌<◌, ◌≤◌, Bool, true, false, cond, eqb, List, [], ◌∷◌, ◌++◌, length, get_or, take, filter, sym, refl, ap, ◌∙◌, ap₂, add-zero, add-mul, one-mul, mul-zero, mul-add, arith, length-append}
 use lib.Bits.{bit_xor, xor_zero_r, xor_zero_l, xor_assoc}
 use lib.Lanes.{fold_l}
 use Rattle.std.specs.List.{range_with_len}

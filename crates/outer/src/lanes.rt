@@ -32,8 +32,8 @@ impl Multiples {
         ensures { Times self.now.rows (lane v) result }
     {
         let mut sum = u8x32::splat(0);
-        for i in 0..8 {
-            sum ^= chosen(self.rows[i].lanes, v, 1 << i);
+        for (i, row) in self.rows.iter().enumerate() {
+            sum ^= chosen(row.lanes, v, 1 << i);
         }
         sum
     }

@@ -45,5 +45,5 @@ returns-else-all_zero-2 g c =
     (c.syndromes-found.ensures.lanes f c.args.r rule c.requires.roots) c.annihilator-polynomial.ensures c.locator_zeros-places.ensures
     c.correct-count.new.word c.correct-count.ensures.word
     (λ code.
-        let all = taken_all (2 * c.args.e) c.syndromes.result (omega arith) (λ j h. c.syndromes.ensures.lanes f c.args.r rule c.requires.roots j (omega arith) ∙ code j h) in
-        let yes = c.if-all_zero-2.ensures.1 all in search rules)
+    let all = taken_all (2 * c.args.e) c.syndromes.result (omega arith) (λ j h. c.syndromes.ensures.lanes f c.args.r rule c.requires.roots j (omega arith) ∙ code j h) in
+    let yes = c.if-all_zero-2.ensures.1 all in search rules)

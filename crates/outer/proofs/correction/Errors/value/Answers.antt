@@ -1,5 +1,5 @@
 -- A pass for each other place.
-use Rattle.std.proofs.Common.{◌≡◌, ◌<◌, [], ◌∷◌, length, get_or, take, sym, refl, ap, ◌∙◌, subst, ap₂, arith, length-append, rules}
+use Rattle.std.proofs.Common.{◌≡◌, [], ◌∷◌, length, get_or, take, sym, refl, ap, ◌∙◌, subst, ap₂, arith, length-append, rules}
 use lib.Bits.{bit_xor}
 use Rattle.std.proofs.lemmas.List.{take_all}
 use Rattle.std.proofs.lemmas.Slice.Zip.{zip_turn, zip_end}
@@ -30,7 +30,7 @@ loop-other-preserved-then-from-place g c =
     let q = c.in-Some.other.now in
     let none : Multiples = record { rows = [] } in
     let turn = zip_turn zs self.locators c.loop-other.yielded c.into_iter-other-iterator.result c.loop-other.other-iterator c.next.new.self c.next.result (search rules) (search rules) c.loop-other.yielded_by
-        (c.in-Some.other, c.in-Some.locator) c.in-Some.is c.next.ensures.steps in
+    (c.in-Some.other, c.in-Some.locator) c.in-Some.is c.next.ensures.steps in
     let is : get_or zs i 0 ≡ q = sym (turn.2 0) in
     let there = locator f self.n q in
     let are : Are f (always there) c.in-Some.locator.now.rows
@@ -53,7 +53,7 @@ loop-other-preserved g c =
     let i = length c.loop-other.yielded in
     let q = c.in-Some.other.now in
     let turn = zip_turn zs self.locators c.loop-other.yielded c.into_iter-other-iterator.result c.loop-other.other-iterator c.next.new.self c.next.result (search rules) (search rules) c.loop-other.yielded_by
-        (c.in-Some.other, c.in-Some.locator) c.in-Some.is c.next.ensures.steps in
+    (c.in-Some.other, c.in-Some.locator) c.in-Some.is c.next.ensures.steps in
     let sums = c.loop-other.sums in
     let d = c.loop-other.divisor in
     subst (λ k. Passing f self.r self.n p (others p (take k zs)) s sums d) (sym (length-append c.loop-other.yielded ((c.in-Some.other, c.in-Some.locator) ∷ [])))

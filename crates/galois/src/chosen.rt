@@ -8,7 +8,7 @@ use crate::field1::Field1;
 use crate::field2::Field2;
 
 // Field 1 or field 2.
-#[derive(Clone, Copy)]
+#[derive(Clone, Copy, Debug, PartialEq, Eq)]
 pub enum AnyField {
     One,
     Two,

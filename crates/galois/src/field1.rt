@@ -7,7 +7,7 @@ ghost use Rattle.galois.specs.Rules.{rule_1};
 use crate::field::Field;
 
 // The field of the polynomial 11D hex.
-#[derive(Clone, Copy)]
+#[derive(Clone, Copy, Debug, PartialEq, Eq)]
 pub struct Field1;
 
 // The powers of 02, by exponent.
@@ -48,11 +48,11 @@ const LOGARITHMS: [u8; 256] = [
 ];
 
 // The exponent of a byte as a power of 02.
-fn logarithm(a: u8) -> u8
+fn logarithm(a: u8) -> usize
     requires { a ≢ 0 }
     ensures { Exponent field_1 a result }
 {
-    LOGARITHMS[a as usize]
+    usize::from(LOGARITHMS[usize::from(a)])
 }
 
 impl Field for Field1 {
@@ -65,7 +65,7 @@ impl Field for Field1 {
         if a == 0 || b == 0 {
             return 0;
         }
-        self.power(logarithm(a) as usize + logarithm(b) as usize)
+        self.power(logarithm(a) + logarithm(b))
     }
 
     // The exponents of a byte and its inverse add to 255.
@@ -73,7 +73,7 @@ impl Field for Field1 {
         if a == 0 {
             return 0;
         }
-        self.power(255 - logarithm(a) as usize)
+        self.power(255 - logarithm(a))
     }
 
     // Exponents count by their remainder by 255.

@@ -7,7 +7,7 @@ ghost use Rattle.galois.specs.Rules.{rule_2};
 use crate::field::Field;
 
 // The field of the polynomial 187 hex.
-#[derive(Clone, Copy)]
+#[derive(Clone, Copy, Debug, PartialEq, Eq)]
 pub struct Field2;
 
 // A byte times z.

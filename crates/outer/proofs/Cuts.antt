@@ -1,9 +1,8 @@
 -- Polynomials cut by equations.
-use Rattle.std.proofs.Common.{◌≡◌, ℕ, zero, suc, ◌+◌, ◌-◌, ◌*◌, ◌%◌, ◌^◌, ◌<◌, ◌≤◌, ◌≢◌, ◌⊎◌, List, [], ◌∷◌, length, get_or, take, set, replicate, sym, refl, ap, ◌∙◌, subst, ap₂, inl, inr, add-zero, zero-add, arith, length-set, get_or-set_other, get_or-take, get_or-set_same, w8, Fits, below_more}
+use Rattle.std.proofs.Common.{◌≡◌, ℕ, zero, suc, ◌+◌, ◌-◌, ◌^◌, ◌<◌, ◌≤◌, ◌≢◌, ◌⊎◌, List, [], ◌∷◌, length, get_or, take, set, replicate, sym, refl, ap, ◌∙◌, subst, ap₂, inl, inr, add-zero, zero-add, arith, length-set, get_or-set_other, get_or-take, get_or-set_same, w8, Fits, below_more}
 use mathlib.Core.Path.{fun_ext}
 use lib.Bits.{bit_xor, xor_zero_r, xor_assoc, xor_comm, xor_self}
 use lib.Lanes.{Each1, fold_l}
-use lib.ListN.{get_or-replicate}
 use Rattle.std.proofs.lemmas.List.{get_or_past, length-take-le}
 use Rattle.std.proofs.lemmas.Nat.{pow_below}
 use Rattle.std.proofs.lemmas.Bool.{cases_lt}
@@ -12,9 +11,8 @@ use Rattle.outer.specs.declared.lanes.Row.{Row}
 use Rattle.outer.specs.ByteLists.{Bytes}
 use Rattle.outer.specs.Decoding.{applied}
 use Rattle.outer.specs.Lanes.{lane, at, Are}
-use Rattle.outer.specs.Cutting.{always, from, polynomial, Vector, Moved, FirstFailing, factor, Cleared, Leads, Cut, Power, Powers, Annihilator}
+use Rattle.outer.specs.Cutting.{from, polynomial, Vector, Moved, FirstFailing, factor, Cleared, Leads, Cut, Power, Powers, Annihilator}
 use Rattle.outer.proofs.Bytewise.{xor_small, bytes_take}
-use Rattle.outer.proofs.Rows.{row_more}
 use Rattle.outer.proofs.Zeros.{get_or-zeros, bytes_zeros}
 use Rattle.outer.proofs.Corrections.{bytes_set}
 use Rattle.outer.proofs.Equations.{mul_zero, zero_mul, more_of_both}
@@ -26,12 +24,6 @@ set_more P d xs i x h here below =
     below_more (λ k. P k (get_or (set xs i x) k d)) i
     (λ k l. let other : k ≢ i = omega arith in subst (P k) (sym (get_or-set_other xs i k x d other)) (below k l))
     (subst (P i) (sym (get_or-set_same xs i x d h)) here)
-
--- after one row more of the multiples of one constant
-pub splat_more : (mul : ℕ → ℕ → ℕ) (k : ℕ) (rows : List Row) (i x : ℕ) → i < length rows → i < 8 → x ≡ mul k (1 * 2 ^ i % 256)
-    → ((n : ℕ) → n < i → (l : ℕ) → l < 32 → at rows n l ≡ mul k (2 ^ n))
-    → (n : ℕ) → n < i + 1 → (l : ℕ) → l < 32 → at (set rows i (record { lanes = replicate 32 x })) n l ≡ mul k (2 ^ n)
-splat_more mul k rows i x h few e below = row_more mul (always k) rows i (record { lanes = replicate 32 x }) h few (λ l m. get_or-replicate 32 l x 0 m ∙ e) below
 
 bytes_fit : (v : List ℕ) → Each1 (Fits w8) v → Bytes v
 bytes_fit [] h k = omega arith
@@ -149,17 +141,6 @@ module _ (f : ByteField) where
           let end : l ≡ 31 = omega arith in
           ap (at others i) end ∙ (moved i hi).last ∙ sym (ap (λ u. f.mul u (2 ^ i)) (past l h) ∙ zero_mul f rule (2 ^ i) (pow_below i 8 hi))
 
-  -- one equation that all n polynomials meet
-  pub cut_none : (e : ℕ) (s : List ℕ) (j n : ℕ) (ps : List Row) → FirstFailing f s j ps n n → Cut f e s j n ps → Cut f e s (j + 1) n ps
-  cut_none e s j n ps all cut = record {
-    few = cut.few;
-    left = omega (arith, cut.left);
-    vectors = cut.vectors;
-    degree = cut.degree;
-    meets = λ b i h. below_more (λ i. applied f (polynomial ps b) s i ≡ 0) j (λ i. cut.meets b i h) (all.before b h) i;
-    leads = cut.leads;
-  }
-
   -- one equation that polynomial b of n fails
   pub cut_cleared : FieldRule f → (e : ℕ) (s : List ℕ) (j n b : ℕ) (ps qs : List Row) → e ≤ 16 → Bytes s → b < n → FirstFailing f s j ps n b → Cleared f s j n b ps qs
       → Cut f e s j n ps → Cut f e s (j + 1) (n - 1) qs
@@ -230,6 +211,24 @@ module _ (f : ByteField) where
             zeros = λ a m. by (λ q. lane q was.place ≡ 0) a (omega arith) (λ d. was.zeros a (omega arith))
                 (λ d. sum-lane a was.place d (omega arith) few (was.zeros (a + 1) (omega arith)) (was.zeros b (omega arith)));
           }
+
+  -- only the polynomials that are left count
+  pub cut_same : (e : ℕ) (s : List ℕ) (j n : ℕ) (ps qs : List Row) → ((b : ℕ) → b < n → polynomial ps b ≡ polynomial qs b) → Cut f e s j n ps → Cut f e s j n qs
+  cut_same e s j n ps qs same cut = record {
+    few = cut.few;
+    left = cut.left;
+    vectors = λ b h. subst (λ p. Vector p) (same b h) (cut.vectors b h);
+    degree = λ b l h m few. subst (λ p. lane p l ≡ 0) (same b h) (cut.degree b l h m few);
+    meets = λ b i h m. subst (λ p. applied f p s i ≡ 0) (same b h) (cut.meets b i h m);
+    leads = λ b h.
+        let it = cut.leads b h in
+        record {
+          place = it.place;
+          low = it.low;
+          one = subst (λ p. lane p it.place ≡ 1) (same b h) it.one;
+          zeros = λ a m. subst (λ p. lane p it.place ≡ 0) (same a (omega arith)) (it.zeros a m);
+        };
+  }
 
   -- the powers of x, before any equation
   pub cut_powers : (e : ℕ) (s : List ℕ) (ps : List Row) → e ≤ 16 → Powers ps → Cut f e s 0 (e + 1) ps

@@ -11,6 +11,7 @@ pub mod Places
 pub mod CodeWords
 pub mod Equations
 pub mod Bits
+pub mod Filling
 pub mod Rows
 pub mod Values
 pub mod Generators

@@ -33,10 +33,6 @@ module _ (f : ByteField) (rule : FieldRule f) where
   value_from_small v (b ∷ bs) x h k l =
       value_from_small (bit_xor (f.mul v x) b) bs x (xor_small (f.mul v x) b (rule.mul_small v x h l) (k 0)) (λ i. k (suc i)) l
 
-  pub syndrome_small : (r : ℕ) (w : List ℕ) (j : ℕ) → Bytes w → syndrome f r w j < 256
-  unfolding syndrome value
-  syndrome_small r w j h = value_from_small 0 w (power f (r + j)) (omega arith) h (power_small f rule (r + j))
-
   -- the sum of a word's bytes, each with its power of x
   unfoldable pub byte_sum : List ℕ → Byte → Byte
   byte_sum [] x = 𝟘

@@ -1,12 +1,12 @@
 -- From what the decoder's parts come to, to its answer.
-use Rattle.std.proofs.Common.{◌≡◌, ℕ, ◌+◌, ◌-◌, ◌*◌, ◌<◌, ◌≤◌, List, ◌++◌, length, get_or, take, None, sym, ap, ◌∙◌, subst, arith}
+use Rattle.std.proofs.Common.{◌≡◌, ℕ, ◌+◌, ◌-◌, ◌*◌, ◌<◌, ◌≤◌, List, ◌++◌, length, take, None, sym, ap, ◌∙◌, subst, arith}
 use borrow.Rule.Slice.PartMut.{put_mid, post_of, Post-is}
 use Rattle.std.specs.List.{range_with_len, AllByRecursion as All}
 use Rattle.std.proofs.ByRecursion.{all_kept_by, All-get_or}
-use Rattle.std.proofs.lemmas.List.{append-nil, drop_all, get_or-take, length-take-le}
+use Rattle.std.proofs.lemmas.List.{append-nil, drop_all, length-take-le}
 use Rattle.galois.specs.Bytes.{ByteField, FieldRule}
 use Rattle.outer.specs.ByteLists.{Bytes}
-use Rattle.outer.specs.Correction.{Listed, Inside, Sizes, Repaired}
+use Rattle.outer.specs.Correction.{Inside, Sizes, Repaired}
 use Rattle.outer.specs.Cutting.{Annihilator}
 use Rattle.outer.specs.Decoding.{is_located, locator_zeros, error_value, corrected, errors}
 use Rattle.outer.specs.Lanes.{lane}
@@ -22,12 +22,12 @@ use Rattle.outer.proofs.Terms.{locator_zeros-padded}
 use Rattle.outer.proofs.Verdicts.{decodes}
 
 -- the places of a word's zeros are in the word
-zeros_inside : (f : ByteField) (n : ℕ) (cs array : List ℕ) (count : ℕ) → Listed (locator_zeros f n cs) array count → Inside n count array
+zeros_inside : (f : ByteField) (n : ℕ) (cs : List ℕ) → Inside n (locator_zeros f n cs)
 unfolding locator_zeros
-zeros_inside f n cs array count it i h =
+zeros_inside f n cs i h =
     let zs = locator_zeros f n cs in
     let all : All (λ q. q < n) zs = all_kept_by (is_located f n cs) (λ q. q < n) (range_with_len 0 n) (all_places (λ q. q < n) 0 n (λ q k l. omega arith)) in
-    subst (λ p. p < n) (ap (λ l. get_or l i 0) (sym it.begins) ∙ get_or-take count array i 0 h) (All-get_or (λ q. q < n) zs i 0 (omega (arith, it.counted)) all)
+    All-get_or (λ q. q < n) zs i 0 h all
 
 module _ (f : ByteField) (rule : FieldRule f) where
   -- check bytes behind the data make what the data are encoded to
@@ -52,9 +52,9 @@ module _ (f : ByteField) (rule : FieldRule f) where
           counted = sym (distance_itself w);
         }
 
-    -- the decoder's parts, from the arrays that hold them
-    module _ (s a array : List ℕ) (count : ℕ) (hs : Bytes s) (known : (l : ℕ) → l < 32 → lane s l ≡ syndrome f r w l) (it : Annihilator f e s a)
-        (listed : length (locator_zeros f (length w) a) ≤ 16 → Listed (locator_zeros f (length w) a) array count) where
+    -- the decoder's parts, from what holds them
+    module _ (s a zs : List ℕ) (hs : Bytes s) (known : (l : ℕ) → l < 32 → lane s l ≡ syndrome f r w l) (it : Annihilator f e s a)
+        (listed : length (locator_zeros f (length w) a) ≤ 16 → zs ≡ locator_zeros f (length w) a) where
       verdict_here : Verdict f r (length w - 2 * e) e w (locator_zeros f (length w) a) (error_value f r (length w) (locator_zeros f (length w) a) s)
       verdict_here =
           let d = length w - 2 * e in
@@ -72,18 +72,18 @@ module _ (f : ByteField) (rule : FieldRule f) where
             annihilates = it.annihilates;
           })))
 
-      is_listed : Listed (locator_zeros f (length w) a) array count
+      is_listed : zs ≡ locator_zeros f (length w) a
       is_listed = listed (omega (arith, verdict_here.few))
 
-      pub places_inside : Inside (length w) count array
-      places_inside = zeros_inside f (length w) a array count is_listed
+      pub places_inside : Inside (length w) zs
+      places_inside = subst (Inside (length w)) (sym is_listed) (zeros_inside f (length w) a)
 
-      verdict_listed : Verdict f r (length w - 2 * e) e w (take count array) (error_value f r (length w) (take count array) s)
-      verdict_listed = subst (λ zs. Verdict f r (length w - 2 * e) e w zs (error_value f r (length w) zs s)) (sym is_listed.begins) verdict_here
+      verdict_listed : Verdict f r (length w - 2 * e) e w zs (error_value f r (length w) zs s)
+      verdict_listed = subst (λ zs. Verdict f r (length w - 2 * e) e w zs (error_value f r (length w) zs s)) (sym is_listed) verdict_here
 
       -- the word with the errors taken off
-      module _ (v : List ℕ) (is : v ≡ corrected (error_value f r (length w) (take count array) s) w (take count array)) where
-        pub repaired_found : (c : ℕ) → c ≡ errors (error_value f r (length w) (take count array) s) (take count array) → CodeWord f r (2 * e) v
+      module _ (v : List ℕ) (is : v ≡ corrected (error_value f r (length w) zs s) w zs) where
+        pub repaired_found : (c : ℕ) → c ≡ errors (error_value f r (length w) zs s) zs → CodeWord f r (2 * e) v
             → Repaired f r (length w - 2 * e) e w v c
         repaired_found c counts code =
             let d = length w - 2 * e in

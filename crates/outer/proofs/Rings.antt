@@ -93,12 +93,6 @@ module _ {K : Type 0} (F : Field K) where
   pub one_more_power : (v b x y t : K) → (v ⊗ x ⊕ b) ⊗ y ⊕ t ≡ v ⊗ (x ⊗ y) ⊕ (b ⊗ y ⊕ t)
   one_more_power v b x y t = simp ring
 
-  pub one_more_pair : (m a b y t u : K) → (a ⊕ m ⊗ b) ⊗ y ⊕ (t ⊕ m ⊗ u) ≡ (a ⊗ y ⊕ t) ⊕ m ⊗ (b ⊗ y ⊕ u)
-  one_more_pair m a b y t u = simp ring
-
-  pub one_more_front : (b y u t v : K) → b ⊗ (y ⊗ u) ⊕ (t ⊗ u ⊕ v) ≡ (b ⊗ y ⊕ t) ⊗ u ⊕ v
-  one_more_front b y u t v = simp ring
-
   -- a difference, times what it is divided by
   pub divided : (a b y g : K) → ¬ (y ⊗ g ≡ 𝟘) → ((a ⊗ y ⊕ b ⊗ y) ⊗ g) ⊗ inv (y ⊗ g) ≡ a ⊕ b
   divided a b y g h =

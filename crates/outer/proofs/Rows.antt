@@ -1,12 +1,10 @@
 -- Rows of lanes, written lane after lane and row after row, and lanes that move on.
-use Rattle.std.proofs.Common.{◌≡◌, ℕ, ◌+◌, ◌*◌, ◌%◌, ◌^◌, ◌<◌, ◌≢◌, List, [], ◌++◌, length, get_or, set, replicate, ap, ◌∙◌, arith, get_or-set_other, get_or-set_same, below_more}
+use Rattle.std.proofs.Common.{◌≡◌, ℕ, ◌+◌, ◌<◌, ◌≢◌, List, ◌++◌, length, get_or, set, replicate, ap, ◌∙◌, arith, get_or-set_other, get_or-set_same, below_more}
 use lib.Lanes.{pick_l}
 use Rattle.std.specs.List.{range_with_len}
-use Rattle.std.proofs.lemmas.Nat.{one_shl}
 use Rattle.std.proofs.lemmas.List.FromFn.{get_or-range_with_len}
 use Rattle.std.proofs.lemmas.List.{get_or-map}
-use Rattle.outer.specs.declared.lanes.Row.{Row}
-use Rattle.outer.specs.Lanes.{lane, at}
+use Rattle.outer.specs.Lanes.{lane}
 use Rattle.outer.proofs.Zeros.{get_or-append-zeros}
 
 -- after one lane more
@@ -16,17 +14,6 @@ lane_more g xs i x h e below =
     below_more (λ k. lane (set xs i x) k ≡ g k) i
     (λ k l. let other : k ≢ i = omega arith in get_or-set_other xs i k x 0 other ∙ below k l)
     (get_or-set_same xs i x 0 h ∙ e)
-
--- after one row of multiples more
-pub row_more : (mul : ℕ → ℕ → ℕ) (c : ℕ → ℕ) (rows : List Row) (i : ℕ) (row : Row) → i < length rows → i < 8
-    → ((l : ℕ) → l < 32 → lane row.lanes l ≡ mul (c l) (1 * 2 ^ i % 256))
-    → ((k : ℕ) → k < i → (l : ℕ) → l < 32 → at rows k l ≡ mul (c l) (2 ^ k))
-    → (k : ℕ) → k < i + 1 → (l : ℕ) → l < 32 → at (set rows i row) k l ≡ mul (c l) (2 ^ k)
-row_more mul c rows i row h few e below =
-    let none : Row = record { lanes = [] } in
-    below_more (λ k. (l : ℕ) → l < 32 → at (set rows i row) k l ≡ mul (c l) (2 ^ k)) i
-    (λ k m l n. let other : k ≢ i = omega arith in ap (λ (r : Row). lane r.lanes l) (get_or-set_other rows i k row none other) ∙ below k m l n)
-    (λ l n. ap (λ (r : Row). lane r.lanes l) (get_or-set_same rows i row none h) ∙ e l n ∙ ap (mul (c l)) (one_shl i 8 few))
 
 -- each lane moves on by one, and a zero comes last
 pub lane_moved : (s : List ℕ) (l : ℕ) → l < 32 → lane (pick_l 0 (s ++ replicate 32 0) (range_with_len 1 32)) l ≡ lane s (1 + l)

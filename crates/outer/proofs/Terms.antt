@@ -1,5 +1,5 @@
 -- The terms of a polynomial at a place, and at the next.
-use Rattle.std.proofs.Common.{◌≡◌, ℕ, zero, suc, ◌+◌, ◌-◌, ◌*◌, ◌%◌, ◌<◌, ◌≤◌, Bool, true, false, cond, eqb, List, [], ◌∷◌, ◌++◌, length, get_or, take, filter, sym, refl, ap, ◌∙◌, subst, ap₂, add-zero, add-mul, one-mul, mul-zero, mul-add, arith, length-append}
+use Rattle.std.proofs.Common.{◌≡◌, ℕ, zero, suc, ◌+◌, ◌-◌, ◌*◌, ◌%◌, ◌<◌, ◌≤◌, Bool, true, false, cond, eqb, List, [], ◌∷◌, ◌++◌, length, get_or, take, filter, sym, refl, ap, ◌∙◌, ap₂, add-zero, add-mul, one-mul, mul-zero, mul-add, arith, length-append}
 use lib.Bits.{bit_xor, xor_zero_r, xor_zero_l, xor_assoc}
 use lib.Lanes.{fold_l}
 use Rattle.std.specs.List.{range_with_len}
@@ -8,7 +8,6 @@ use Rattle.galois.specs.Bytes.{ByteField, FieldRule, power, raised}
 use Rattle.galois.specs.Raising.{power_add, power_small, power_remainder}
 use Rattle.outer.specs.ByteLists.{Bytes}
 use Rattle.outer.specs.Lanes.{lane}
-use Rattle.outer.specs.Correction.{Listed}
 use Rattle.outer.specs.Decoding.{locator, polynomial_at, is_located, locator_zeros}
 use Rattle.outer.proofs.Equations.{mul_zero as times_zero}
 use Rattle.outer.proofs.Kept.{all_always, kept_same}
@@ -16,21 +15,21 @@ use Rattle.outer.proofs.Passes.{polynomial_small}
 use Rattle.outer.proofs.Turns.{kept_push}
 
 -- the places of a test, if at most 16, with one place more that passes it
-pub listed_push : (t : ℕ → Bool) (p : ℕ) (old new : List ℕ) (m n : ℕ) → (length (filter t (range_with_len 0 p)) ≤ 16 → Listed (filter t (range_with_len 0 p)) old m) → t p ≡ true
-    → (m < 16 → Listed (take m old ++ p ∷ []) new n) → length (filter t (range_with_len 0 (p + 1))) ≤ 16 → Listed (filter t (range_with_len 0 (p + 1))) new n
-listed_push t p old new m n known yes-here more few =
+pub listed_push : (t : ℕ → Bool) (p : ℕ) (old new : List ℕ) → (length (filter t (range_with_len 0 p)) ≤ 16 → old ≡ filter t (range_with_len 0 p)) → t p ≡ true
+    → (length old < 16 → new ≡ old ++ p ∷ []) → length (filter t (range_with_len 0 (p + 1))) ≤ 16 → new ≡ filter t (range_with_len 0 (p + 1))
+listed_push t p old new known yes-here more few =
     let whole : filter t (range_with_len 0 (p + 1)) ≡ filter t (range_with_len 0 p) ++ p ∷ [] = kept_push t p ∙ ap (λ b. filter t (range_with_len 0 p) ++ cond b (p ∷ []) []) yes-here in
     let size : length (filter t (range_with_len 0 p)) < 16 = omega (arith, ap length whole, length-append (filter t (range_with_len 0 p)) (p ∷ [])) in
     let so_far = known (omega arith) in
-    subst (λ zs. Listed zs new n) (ap (λ l. l ++ p ∷ []) so_far.begins ∙ sym whole) (more (omega (arith, so_far.counted)))
+    more (omega (arith, ap length so_far)) ∙ ap (λ l. l ++ p ∷ []) so_far ∙ sym whole
 
 -- and with one that does not
-pub listed_stay : (t : ℕ → Bool) (p : ℕ) (old : List ℕ) (m : ℕ) → (length (filter t (range_with_len 0 p)) ≤ 16 → Listed (filter t (range_with_len 0 p)) old m) → t p ≡ false
-    → length (filter t (range_with_len 0 (p + 1))) ≤ 16 → Listed (filter t (range_with_len 0 (p + 1))) old m
-listed_stay t p old m known not-here few =
+pub listed_stay : (t : ℕ → Bool) (p : ℕ) (old : List ℕ) → (length (filter t (range_with_len 0 p)) ≤ 16 → old ≡ filter t (range_with_len 0 p)) → t p ≡ false
+    → length (filter t (range_with_len 0 (p + 1))) ≤ 16 → old ≡ filter t (range_with_len 0 (p + 1))
+listed_stay t p old known not-here few =
     let whole : filter t (range_with_len 0 (p + 1)) ≡ filter t (range_with_len 0 p)
     = kept_push t p ∙ ap (λ b. filter t (range_with_len 0 p) ++ cond b (p ∷ []) []) not-here ∙ append-nil (filter t (range_with_len 0 p)) in
-    subst (λ zs. Listed zs old m) (sym whole) (known (omega (arith, ap length whole)))
+    known (omega (arith, ap length whole)) ∙ sym whole
 
 module _ (f : ByteField) (rule : FieldRule f) where
   -- the term of degree l at the power m of 02

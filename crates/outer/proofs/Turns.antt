@@ -1,13 +1,13 @@
 -- One turn of a loop for each part of the decoder.
-use Rattle.std.proofs.Common.{◌≡◌, ℕ, ◌+◌, ◌<◌, Bool, cond, not, eqb, List, [], ◌∷◌, ◌++◌, length, get_or, take, drop, set, filter, sym, refl, ap, ◌∙◌, ap₂, add_assoc, add_comm, zero-add, arith}
+use Rattle.std.proofs.Common.{◌≡◌, ℕ, ◌+◌, ◌<◌, Bool, cond, not, eqb, List, [], ◌∷◌, ◌++◌, length, get_or, take, set, filter, sym, refl, ap, ◌∙◌, ap₂, add_assoc, add_comm, zero-add, arith}
 use lib.Bits.{bit_xor}
 use Rattle.std.specs.List.{range_with_len}
 use Rattle.std.proofs.lemmas.List.FromFn.{map-range_with_len_more}
 use Rattle.std.proofs.lemmas.List.Elements.{filter-append}
-use Rattle.std.proofs.lemmas.List.{append-nil, drop_more, take_more, map-id}
+use Rattle.std.proofs.lemmas.List.{append-nil, take_more, map-id}
 use Rattle.std.proofs.lemmas.Bool.{eq-eqb, ne_eqb}
 use Rattle.galois.specs.Bytes.{ByteField, FieldRule}
-use Rattle.outer.specs.Decoding.{locator, polynomial_at, applied, is_other, others, passed, passes, differences, corrected, errors}
+use Rattle.outer.specs.Decoding.{locator, is_other, others, passed, passes, differences, corrected, errors}
 use Rattle.outer.proofs.Bytewise.{xor_small, locator_small}
 use Rattle.outer.proofs.Passes.{differences_small}
 
@@ -53,18 +53,6 @@ module _ (v : ℕ → ℕ) (w zs : List ℕ) (i p x : ℕ) (inside : i < length 
   errors_no_more n none known = omega (arith, errors_more, ap (λ b. errors v (take i zs) + cond b 0 1) (eq-eqb x 0 none))
 
 module _ (f : ByteField) where
-  -- Horner's rule, from the highest coefficient down
-  pub polynomial_more : (cs : List ℕ) (x i : ℕ) → i < length cs → polynomial_at f (drop i cs) x ≡ bit_xor (get_or cs i 0) (f.mul x (polynomial_at f (drop (i + 1) cs) x))
-  unfolding polynomial_at
-  polynomial_more cs x i h = ap (λ l. polynomial_at f l x) (drop_more cs i 0 h)
-
-  pub applied_more : (cs s : List ℕ) (j i : ℕ) → i < length cs
-      → applied f (drop i cs) s (i + j) ≡ bit_xor (f.mul (get_or cs i 0) (get_or s (i + j) 0)) (applied f (drop (i + 1) cs) s (i + 1 + j))
-  unfolding applied
-  applied_more cs s j i h =
-      let next : i + j + 1 ≡ i + 1 + j = omega arith in
-      ap (λ l. applied f l s (i + j)) (drop_more cs i 0 h) ∙ ap (λ m. bit_xor (f.mul (get_or cs i 0) (get_or s (i + j) 0)) (applied f (drop (i + 1) cs) s m)) next
-
   pub passes_push : (n : ℕ) (qs : List ℕ) (q : ℕ) (s : ℕ → ℕ) → passes f n (qs ++ q ∷ []) s ≡ passed f (locator f n q) (passes f n qs s)
   unfolding passes
   passes_push n [] q s = refl

@@ -10,14 +10,9 @@ use Rattle.outer.specs.Encoder.{coefficient}
 use Rattle.outer.specs.Words.{distance, encoded}
 use Rattle.outer.specs.Nearest.{nearest}
 
--- the list zs stands at the beginning of an array, and has so many elements
-pub record Listed (zs array : List ℕ) (count : ℕ) : Type 0 where
-  pub begins : take count array ≡ zs
-  pub counted : count ≡ length zs
-
--- each of the first places of a list, so many, is one of a word of n bytes
-abbrev pub Inside : ℕ → ℕ → List ℕ → Type 0
-Inside n count zs = (i : ℕ) → i < count → slice_index zs i < n
+-- each place of a list is one of a word of n bytes
+abbrev pub Inside : ℕ → List ℕ → Type 0
+Inside n zs = (i : ℕ) → i < length zs → slice_index zs i < n
 
 -- in every field, for all constants whose multiples the rows are, lane l of t is lane l + 1 of s, plus its constant times lane l of s
 abbrev pub OnePass : List Row → List ℕ → List ℕ → Type 0
@@ -27,9 +22,9 @@ OnePass rows s t = (f : ByteField) (c : ℕ → ℕ) → FieldRule f → Are f c
 abbrev pub Constant : List Row → ℕ → Type 0
 Constant rows k = (f : ByteField) (c : ℕ) → FieldRule f → Are f (always c) rows → k ≡ c
 
--- for each of the first places of a list, so many, the multiples of its locator in a word of n bytes, in every lane
-abbrev pub LocatorMultiples : ByteField → ℕ → ℕ → List ℕ → List Multiples → Type 0
-LocatorMultiples f n count zs ms = (i : ℕ) → i < count → Are f (always (locator f n (slice_index zs i))) (slice_index_or ms i (record { rows = [] })).rows
+-- for each place of a list the multiples of its locator in a word of n bytes, in every lane
+abbrev pub LocatorMultiples : ByteField → ℕ → List ℕ → List Multiples → Type 0
+LocatorMultiples f n zs ms = (i : ℕ) → i < length zs → Are f (always (locator f n (slice_index zs i))) (slice_index_or ms i (record { rows = [] })).rows
 
 -- words of n bytes, 2 e of them check bytes, whose first root is the power r of 02
 pub record Sizes (r e n : ℕ) : Type 0 where

@@ -1,6 +1,6 @@
 // Code words: the check bytes of data, and the code word near to a word.
-ghost use Rattle.std.specs.Prelude.{◌≡◌, ℕ, ◌-◌, ◌<◌, ◌≤◌, true, false, length};
-ghost use Rattle.outer.specs.Lanes.{lane, root, Are};
+ghost use Rattle.std.specs.Prelude.{◌≡◌, ◌-◌, ◌≤◌, ◌↔◌, length, All, IsTrue};
+ghost use Rattle.outer.specs.Lanes.{root, Are};
 ghost use Rattle.outer.specs.Correction.{Sizes, Decoded, Filled};
 
 use super::correction::correct;
@@ -11,18 +11,11 @@ use super::locator::annihilator;
 use super::syndromes::syndromes;
 use galois::field::Field;
 
-// Whether the first lanes are all 0.
-fn all_zero(lanes: &[u8; 32], count: usize) -> bool
-    requires { count ≤ 32 }
-    ensures zero { result ≡ true → (j : ℕ) → j < count → lane lanes.now j ≡ 0 }
-    ensures other { result ≡ false → ((j : ℕ) → j < count → lane lanes.now j ≡ 0) → ⊥ }
+// Whether all lanes are 0.
+fn all_zero(lanes: &[u8]) -> bool
+    ensures { IsTrue result ↔ All (λ b. b ≡ 0) lanes.now }
 {
-    for j in 0..count {
-        if lanes[j] != 0 {
-            return false;
-        }
-    }
-    true
+    lanes.iter().all(|b| *b == 0)
 }
 
 // Corrects a word in place to the code word that differs from it in at most e bytes; answers in how many, or none where there is no such code word.
@@ -38,13 +31,13 @@ pub fn correct_word<F: Field>(
     ensures { Decoded (F.Field.meaning field.now) r e word.old word.new result }
 {
     let found = syndromes(roots, word);
-    if all_zero(&found, 2 * e) {
+    if all_zero(&found[..2 * e]) {
         return Some(0);
     }
     let polynomial = annihilator(field, &found, e);
     let places = locator_zeros(field, &polynomial, word.len());
     let count = correct(field, &found, &places, r, word);
-    if all_zero(&syndromes(roots, word), 2 * e) {
+    if all_zero(&syndromes(roots, word)[..2 * e]) {
         Some(count)
     } else {
         None

@@ -1,5 +1,5 @@
 // The values of the errors at known places, and the word without them.
-ghost use Rattle.std.specs.Prelude.{◌≡◌, ◌<◌, ◌≤◌, length, take};
+ghost use Rattle.std.specs.Prelude.{◌≡◌, ◌<◌, ◌≤◌, length};
 ghost use Rattle.outer.specs.Correction.{Inside, OnePass, Constant, LocatorMultiples};
 ghost use Rattle.outer.specs.Decoding.{error_value, corrected, errors};
 
@@ -23,44 +23,49 @@ fn constant(multiples: &Multiples) -> u8
     multiples.rows[0].lanes.to_array()[0]
 }
 
-// For each place the multiples of its locator.
+// For each place the multiples of its locator in a word of n bytes.
 fn locator_multiples<F: Field>(field: &F, places: &Places, n: usize) -> [Multiples; 16]
-    requires { Inside n places.now.count places.now.at }
-    ensures { LocatorMultiples (F.Field.meaning field.now) n places.now.count places.now.at result }
+    requires { Inside n places.now }
+    ensures { LocatorMultiples (F.Field.meaning field.now) n places.now result }
 {
     let mut multiples = [scalar_multiples(field, 0); 16];
-    for i in 0..places.count {
-        let place = usize::from(places.at[i]);
-        multiples[i] = scalar_multiples(field, field.power(n - 1 - place));
+    for (i, place) in places.as_slice().iter().enumerate() {
+        multiples[i] = scalar_multiples(field, field.power(n - 1 - usize::from(*place)));
     }
     multiples
 }
 
-// The value of the error at one of the places of a word of n bytes.
-fn error_value<F: Field>(
-    field: &F,
-    syndromes: &[u8; 32],
-    places: &Places,
-    multiples: &[Multiples; 16],
-    place: usize,
+// What the values of the errors in a word of n bytes follow from: its syndromes, the places, and for each place the multiples of its locator.
+#[derive(Drop)]
+struct Errors<'a, F> {
+    field: &'a F,
+    syndromes: &'a [u8; 32],
+    places: &'a Places,
+    locators: [Multiples; 16],
     r: usize,
     n: usize,
-) -> u8
-    requires known { (place < n) × ((n ≤ 255) × (r ≤ 254)) }
-    requires located { LocatorMultiples (F.Field.meaning field.now) n places.now.count places.now.at multiples.now }
-    ensures { result ≡ error_value (F.Field.meaning field.now) r n (take places.now.count places.now.at) syndromes.now place }
-{
-    let here = field.power(n - 1 - place);
-    let mut sums = u8x32::from_array(*syndromes);
-    let mut divisor = field.power((n - 1 - place) * r);
-    for i in 0..places.count {
-        let other = usize::from(places.at[i]);
-        if other != place {
-            sums = pass(&multiples[i], sums);
-            divisor = field.mul(divisor, here ^ constant(&multiples[i]));
+}
+
+impl<F: Field> Errors<'_, F> {
+    // The value of the error at one of the places.
+    fn value(&self, place: usize) -> u8
+        requires known { (place < self.now.n) × ((self.now.n ≤ 255) × (self.now.r ≤ 254)) }
+        requires located { LocatorMultiples (F.Field.meaning self.now.field.now) self.now.n self.now.places.now self.now.locators }
+        ensures { result ≡ error_value (F.Field.meaning self.now.field.now) self.now.r self.now.n self.now.places.now self.now.syndromes.now place }
+    {
+        let field = self.field;
+        let exponent = self.n - 1 - place;
+        let here = field.power(exponent);
+        let mut sums = u8x32::from_array(*self.syndromes);
+        let mut divisor = field.power(exponent * self.r);
+        for (other, locator) in self.places.as_slice().iter().zip(&self.locators) {
+            if usize::from(*other) != place {
+                sums = pass(locator, sums);
+                divisor = field.mul(divisor, here ^ constant(locator));
+            }
         }
+        field.mul(sums.to_array()[0], field.inverse(divisor))
     }
-    field.mul(sums.to_array()[0], field.inverse(divisor))
 }
 
 // Adds the values of the errors at their places; answers how many are not 0.
@@ -72,16 +77,23 @@ pub fn correct<F: Field>(
     word: &mut [u8],
 ) -> u32
     requires known { (length word.old ≤ 255) × (r ≤ 254) }
-    requires inside { Inside (length word.old) places.now.count places.now.at }
-    ensures word { word.new ≡ corrected (error_value (F.Field.meaning field.now) r (length word.old) (take places.now.count places.now.at) syndromes.now) word.old (take places.now.count places.now.at) }
-    ensures count { result ≡ errors (error_value (F.Field.meaning field.now) r (length word.old) (take places.now.count places.now.at) syndromes.now) (take places.now.count places.now.at) }
+    requires inside { Inside (length word.old) places.now }
+    ensures word { word.new ≡ corrected (error_value (F.Field.meaning field.now) r (length word.old) places.now syndromes.now) word.old places.now }
+    ensures count { result ≡ errors (error_value (F.Field.meaning field.now) r (length word.old) places.now syndromes.now) places.now }
 {
     let n = word.len();
-    let multiples = locator_multiples(field, places, n);
+    let errors = Errors {
+        field,
+        syndromes,
+        places,
+        locators: locator_multiples(field, places, n),
+        r,
+        n,
+    };
     let mut count = 0;
-    for i in 0..places.count {
-        let place = usize::from(places.at[i]);
-        let value = error_value(field, syndromes, places, &multiples, place, r, n);
+    for place in places.as_slice() {
+        let place = usize::from(*place);
+        let value = errors.value(place);
         word[place] ^= value;
         if value != 0 {
             count += 1;

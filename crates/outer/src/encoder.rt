@@ -13,17 +13,16 @@ pub const NEXT: [usize; 32] = [
     27, 28, 29, 30, 31, 32,
 ];
 
-// A polynomial times x + a: the coefficients behind the leading 1, which has no lane.
-fn times_root<F: Field>(field: &F, lower: &[u8; 32], a: u8) -> [u8; 32]
-    ensures { (l : ℕ) → l < 32 → lane result l ≡ bit_xor (lane lower.now l) ((F.Field.meaning field.now).mul a (lane (1 ∷ lower.now) l)) }
+// Multiplies a polynomial by x + a: the coefficients behind the leading 1, which has no lane.
+fn multiply_by_root<F: Field>(field: &F, lower: &mut [u8; 32], a: u8)
+    ensures { (l : ℕ) → l < 32 → lane lower.new l ≡ bit_xor (lane lower.old l) ((F.Field.meaning field.now).mul a (lane (1 ∷ lower.old) l)) }
 {
-    let mut product = [0; 32];
     let mut last = 1;
-    for l in 0..32 {
-        product[l] = lower[l] ^ field.mul(a, last);
-        last = lower[l];
+    for coefficient in lower.iter_mut() {
+        let product = field.mul(a, last);
+        last = *coefficient;
+        *coefficient ^= product;
     }
-    product
 }
 
 // The coefficients of the generator polynomial behind the leading 1, highest first, and zeros behind them.
@@ -33,7 +32,7 @@ pub fn generator<F: Field>(field: &F, r: usize, c: usize) -> [u8; 32]
 {
     let mut lower = [0; 32];
     for j in 0..c {
-        lower = times_root(field, &lower, field.power(r + j));
+        multiply_by_root(field, &mut lower, field.power(r + j));
     }
     lower
 }

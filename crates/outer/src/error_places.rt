@@ -1,26 +1,34 @@
 // The places of a word at whose locators a polynomial is zero.
-ghost use Rattle.std.specs.Prelude.{◌≡◌, ℕ, ◌*◌, ◌<◌, ◌≤◌, [], ◌∷◌, ◌++◌, length, take};
+ghost use Rattle.std.specs.Prelude.{◌≡◌, ℕ, ◌*◌, ◌<◌, ◌≤◌, List, [], ◌∷◌, ◌++◌, length, take};
 ghost use Rattle.galois.specs.Bytes.{power};
-ghost use Rattle.outer.specs.Correction.{Listed};
 ghost use Rattle.outer.specs.Lanes.{lane};
 ghost use Rattle.outer.specs.Decoding.{locator_zeros};
 
 use super::locator::{lane_multiples, scales};
 use galois::field::Field;
+use std::marker::Model;
 use std::simd::prelude::*;
 
 // Places of a word, at most 16, ascending.
-#[derive(Clone, Copy)]
+#[derive(Drop)]
 pub struct Places {
-    pub at: [u8; 16],
-    pub count: usize,
-    ghost few: { count ≤ 16 },
+    at: [u8; 16],
+    count: usize,
+}
+
+// Clauses see the places.
+impl Model for Places {
+    ghost Value = { List ℕ };
+
+    ghost view = { λ p. take p.count p.at };
+
+    ghost invariant = { λ p. p.count ≤ 16 };
 }
 
 impl Places {
     // No place.
-    fn none() -> Places
-        ensures { result.count ≡ 0 }
+    fn none() -> Self
+        ensures { result ≡ [] }
     {
         Places {
             at: [0; 16],
@@ -28,19 +36,22 @@ impl Places {
         }
     }
 
-    // These places and one more; a full list stays as it is.
-    fn and(self, place: u8) -> Places
-        ensures { self.count < 16 → Listed (take self.count self.at ++ place ∷ []) result.at result.count }
+    // One place more; a full list stays as it is.
+    fn push(&mut self, place: u8)
+        ensures { length self.old < 16 → self.new ≡ self.old ++ place ∷ [] }
     {
-        if self.count == 16 {
-            return self;
+        if self.count < 16 {
+            self.at[self.count] = place;
+            self.count += 1;
         }
-        let mut at = self.at;
-        at[self.count] = place;
-        Places {
-            at,
-            count: self.count + 1,
-        }
+    }
+
+    // The places as a slice.
+    pub fn as_slice(&self) -> &[u8]
+        ensures same { result.now ≡ self.now }
+        ensures few { length self.now ≤ 16 }
+    {
+        &self.at[..self.count]
     }
 }
 
@@ -51,8 +62,8 @@ fn powers<F: Field>(field: &F, m: usize) -> [u8; 32]
     let mut powers = [0; 32];
     let factor = field.power(m);
     let mut next = 1;
-    for l in 0..32 {
-        powers[l] = next;
+    for power in &mut powers {
+        *power = next;
         next = field.mul(next, factor);
     }
     powers
@@ -61,7 +72,7 @@ fn powers<F: Field>(field: &F, m: usize) -> [u8; 32]
 // The places of a word of n bytes at whose locators a polynomial is zero, if they are at most 16.
 pub fn locator_zeros<F: Field>(field: &F, polynomial: &[u8; 32], n: usize) -> Places
     requires { (1 ≤ n) × (n ≤ 255) }
-    ensures { length (locator_zeros (F.Field.meaning field.now) n polynomial.now) ≤ 16 → Listed (locator_zeros (F.Field.meaning field.now) n polynomial.now) result.at result.count }
+    ensures { length (locator_zeros (F.Field.meaning field.now) n polynomial.now) ≤ 16 → result ≡ locator_zeros (F.Field.meaning field.now) n polynomial.now }
 {
     let scales = scales(field);
     // The next place has half the locator, and half is the power 254 of 02.
@@ -71,7 +82,7 @@ pub fn locator_zeros<F: Field>(field: &F, polynomial: &[u8; 32], n: usize) -> Pl
     let mut places = Places::none();
     for p in 0..n {
         if terms.reduce_xor() == 0 {
-            places = places.and(p as u8);
+            places.push(p as u8);
         }
         terms = onward.times(terms);
     }

@@ -3,6 +3,7 @@ ghost use Rattle.std.specs.Prelude.{◌≡◌, ℕ, ◌<◌, if◌then◌else◌
 ghost use Rattle.outer.specs.Lanes.{lane, Are, Times};
 
 use galois::field::Field;
+use std::array;
 use std::simd::prelude::*;
 
 // One multiple of each of 32 constants.
@@ -31,8 +32,8 @@ impl Multiples {
         ensures { Times self.now.rows (lane v) result }
     {
         let mut sum = u8x32::splat(0);
-        for i in 0..8 {
-            sum ^= chosen(self.rows[i].lanes, v, 1 << i);
+        for (i, row) in self.rows.iter().enumerate() {
+            sum ^= chosen(row.lanes, v, 1 << i);
         }
         sum
     }
@@ -42,12 +43,9 @@ impl Multiples {
 fn multiple<F: Field>(field: &F, constants: &[u8; 32], by: u8) -> Row
     ensures { (l : ℕ) → l < 32 → lane result.lanes l ≡ (F.Field.meaning field.now).mul (lane constants.now l) by }
 {
-    let mut row = [0; 32];
-    for l in 0..32 {
-        row[l] = field.mul(constants[l], by);
-    }
+    let lanes = array::from_fn(|l| field.mul(constants[l], by));
     Row {
-        lanes: u8x32::from_array(row),
+        lanes: u8x32::from_array(lanes),
     }
 }
 
@@ -55,11 +53,7 @@ fn multiple<F: Field>(field: &F, constants: &[u8; 32], by: u8) -> Row
 pub fn multiples_of<F: Field>(field: &F, constants: &[u8; 32]) -> Multiples
     ensures { Are (F.Field.meaning field.now) (lane constants.now) result.rows }
 {
-    let mut rows = [Row {
-        lanes: u8x32::splat(0),
-    }; 8];
-    for i in 0..8 {
-        rows[i] = multiple(field, constants, 1 << i);
+    Multiples {
+        rows: array::from_fn(|i| multiple(field, constants, 1 << i)),
     }
-    Multiples { rows }
 }

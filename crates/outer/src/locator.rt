@@ -1,56 +1,41 @@
 // The locator polynomial: one that annihilates the syndromes, whose zeros locate the errors.
-ghost use Rattle.std.specs.Prelude.{◌<◌, ◌≤◌};
+ghost use Rattle.std.specs.Prelude.{◌<◌, ◌≤◌, length, MatchOption};
 ghost use Rattle.outer.specs.Lanes.{Are};
 ghost use Rattle.outer.specs.Cutting.{always, Scales, Scaled, Moved, MovedOn, Applies, Power, Powers, Fails, Clears, ClearsAll, Cuts, Annihilator};
 
 use super::encoder::NEXT;
 use super::lanes::{Multiples, Row};
 use galois::field::Field;
+use std::array;
 use std::simd::prelude::*;
 
 // The multiples of one constant in every lane.
 pub fn scalar_multiples<F: Field>(field: &F, k: u8) -> Multiples
     ensures { Are (F.Field.meaning field.now) (always k) result.rows }
 {
-    let mut rows = [Row {
-        lanes: u8x32::splat(0),
-    }; 8];
-    for i in 0..8 {
-        rows[i] = Row {
+    Multiples {
+        rows: array::from_fn(|i| Row {
             lanes: u8x32::splat(field.mul(k, 1 << i)),
-        };
+        }),
     }
-    Multiples { rows }
 }
 
 // The multiples of the bytes 1, 2, 4, .. , 128, each in every lane.
 pub fn scales<F: Field>(field: &F) -> [Multiples; 8]
     ensures { Scales (F.Field.meaning field.now) result }
 {
-    let mut scales = [Multiples {
-        rows: [Row {
-            lanes: u8x32::splat(0),
-        }; 8],
-    }; 8];
-    for i in 0..8 {
-        scales[i] = scalar_multiples(field, 1 << i);
-    }
-    scales
+    array::from_fn(|i| scalar_multiples(field, 1 << i))
 }
 
 // The multiples of a vector's bytes, a row at once.
 pub fn lane_multiples(scales: &[Multiples; 8], v: u8x32) -> Multiples
     ensures { Scaled scales.now v result.rows }
 {
-    let mut rows = [Row {
-        lanes: u8x32::splat(0),
-    }; 8];
-    for i in 0..8 {
-        rows[i] = Row {
+    Multiples {
+        rows: array::from_fn(|i| Row {
             lanes: scales[i].times(v),
-        };
+        }),
     }
-    Multiples { rows }
 }
 
 // All lanes move on by one, and a zero comes last.
@@ -64,15 +49,11 @@ pub fn moved(v: u8x32) -> u8x32
 fn next_lanes(constants: &Multiples) -> Multiples
     ensures { MovedOn constants.now.rows result.rows }
 {
-    let mut rows = [Row {
-        lanes: u8x32::splat(0),
-    }; 8];
-    for i in 0..8 {
-        rows[i] = Row {
-            lanes: moved(constants.rows[i].lanes),
-        };
+    Multiples {
+        rows: constants.rows.map(|row| Row {
+            lanes: moved(row.lanes),
+        }),
     }
-    Multiples { rows }
 }
 
 // A polynomial, applied to the constants: the products of all lanes, summed.
@@ -96,27 +77,16 @@ fn power(b: usize) -> u8x32
 fn powers() -> [Row; 17]
     ensures { Powers result }
 {
-    let mut powers = [Row {
-        lanes: u8x32::splat(0),
-    }; 17];
-    for b in 0..17 {
-        powers[b] = Row { lanes: power(b) };
-    }
-    powers
+    array::from_fn(|b| Row { lanes: power(b) })
 }
 
-// The first of n polynomials that does not give 0, or n if all do.
-fn first_failing(equation: &Multiples, polynomials: &[Row; 17], n: usize) -> usize
-    requires { n ≤ 17 }
-    ensures within { result ≤ n }
-    ensures first { Fails equation.now.rows polynomials.now n result }
+// The first of some polynomials that does not give 0, or none if all do.
+fn first_failing(equation: &Multiples, polynomials: &[Row]) -> Option<usize>
+    ensures { MatchOption result (Fails equation.now.rows polynomials.now (length polynomials.now) (length polynomials.now)) (λ b. (b < length polynomials.now) × Fails equation.now.rows polynomials.now (length polynomials.now) b) }
 {
-    for b in 0..n {
-        if applied_to(equation, polynomials[b].lanes) != 0 {
-            return b;
-        }
-    }
-    n
+    polynomials
+        .iter()
+        .position(|polynomial| applied_to(equation, polynomial.lanes) != 0)
 }
 
 // A polynomial, with the multiple of the pivot added that makes it give 0.
@@ -133,22 +103,21 @@ fn cleared<F: Field>(
     v ^ pivot.times(u8x32::splat(factor))
 }
 
-// The pivot, polynomial b of n, goes, and each behind it comes one place forward, cleared.
+// The pivot, polynomial b, goes, and each behind it comes one place forward, cleared.
 fn clear<F: Field>(
     field: &F,
     equation: &Multiples,
     scales: &[Multiples; 8],
-    polynomials: &mut [Row; 17],
-    n: usize,
+    polynomials: &mut [Row],
     b: usize,
 )
-    requires { (b < n) × (n ≤ 17) }
-    ensures { ClearsAll (F.Field.meaning field.now) equation.now.rows scales.now n b polynomials.old polynomials.new }
+    requires { b < length polynomials.old }
+    ensures { ClearsAll (F.Field.meaning field.now) equation.now.rows scales.now (length polynomials.old) b polynomials.old polynomials.new }
 {
     let pivot = polynomials[b].lanes;
     let inverse = field.inverse(applied_to(equation, pivot));
     let multiples = lane_multiples(scales, pivot);
-    for c in b..n - 1 {
+    for c in b..polynomials.len() - 1 {
         let lanes = cleared(
             field,
             equation,
@@ -160,23 +129,23 @@ fn clear<F: Field>(
     }
 }
 
-// How many of n polynomials are left after one equation more.
+// How many of some polynomials, in front of the others, are left after one equation more.
 fn cut<F: Field>(
     field: &F,
     equation: &Multiples,
     scales: &[Multiples; 8],
-    polynomials: &mut [Row; 17],
-    n: usize,
+    polynomials: &mut [Row],
 ) -> usize
-    requires { n ≤ 17 }
-    ensures { Cuts (F.Field.meaning field.now) equation.now.rows scales.now n result polynomials.old polynomials.new }
+    ensures few { result ≤ length polynomials.old }
+    ensures cuts { Cuts (F.Field.meaning field.now) equation.now.rows scales.now (length polynomials.old) result polynomials.old polynomials.new }
 {
-    let b = first_failing(equation, polynomials, n);
-    if b == n {
-        return n;
+    match first_failing(equation, polynomials) {
+        None => polynomials.len(),
+        Some(b) => {
+            clear(field, equation, scales, polynomials, b);
+            polynomials.len() - 1
+        }
     }
-    clear(field, equation, scales, polynomials, n, b);
-    n - 1
 }
 
 // A polynomial, not zero, with e + 1 coefficients, lowest first, that annihilates the syndromes.
@@ -189,7 +158,7 @@ pub fn annihilator<F: Field>(field: &F, syndromes: &[u8; 32], e: usize) -> [u8; 
     let mut polynomials = powers();
     let mut n = e + 1;
     for _j in 0..e {
-        n = cut(field, &equation, &scales, &mut polynomials, n);
+        n = cut(field, &equation, &scales, &mut polynomials[..n]);
         equation = next_lanes(&equation);
     }
     polynomials[0].lanes.to_array()

@@ -6,6 +6,7 @@ ghost use Rattle.outer.specs.Syndromes.{Syndromes};
 
 use super::lanes::{Multiples, multiples_of};
 use galois::field::Field;
+use std::array;
 use std::simd::prelude::*;
 
 // The powers r, r + 1, .. , r + 31 of 02.
@@ -13,11 +14,7 @@ fn roots<F: Field>(field: &F, r: usize) -> [u8; 32]
     requires { r + 32 ≤ 2 ^ 64 }
     ensures { (l : ℕ) → l < 32 → lane result l ≡ root (F.Field.meaning field.now) r l }
 {
-    let mut roots = [0; 32];
-    for l in 0..32 {
-        roots[l] = field.power(r + l);
-    }
-    roots
+    array::from_fn(|l| field.power(r + l))
 }
 
 // The multiples of the powers r, r + 1, .. , r + 31 of 02.

@@ -3,8 +3,8 @@ use Rattle.std.proofs.Common.{◌≡◌, ◌≤◌, take}
 use Rattle.outer.specs.Decoding.{error_value, corrected, errors}
 use Rattle.outer.proofs.correction.correct.Given as goal
 
-abbrev pub invariant-loop-i : goal.invariant-loop-i
-invariant-loop-i g s =
-    let zs = take s.places.count s.places.at in
-    let v = error_value (g.F.Field.meaning s.field) s.r s.n zs s.syndromes in
-    (s.word ≡ corrected v s.initial.word (take s.i zs)) × (s.count ≡ errors v (take s.i zs)) × (s.count ≤ s.i)
+abbrev pub invariant-loop-place : goal.invariant-loop-place
+invariant-loop-place g s =
+    let v = error_value (g.F.Field.meaning s.field) s.r s.n s.places s.syndromes in
+    let so_far = take s.place-index s.places in
+    (s.word ≡ corrected v s.initial.word so_far) × (s.count ≡ errors v so_far) × (s.count ≤ s.place-index)

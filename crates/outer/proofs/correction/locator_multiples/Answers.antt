@@ -1,5 +1,5 @@
 -- One place more.
-use Rattle.std.proofs.Common.{ℕ, ◌-◌, [], get_or, refl, ap, ◌∙◌, subst, arith, length-set}
+use Rattle.std.proofs.Common.{ℕ, ◌-◌, [], length, get_or, ap, ◌∙◌, subst, arith, length-set}
 use Rattle.galois.specs.Bytes.{power}
 use Rattle.outer.specs.declared.lanes.Multiples.{Multiples}
 use Rattle.outer.specs.Cutting.{always}
@@ -8,17 +8,16 @@ use Rattle.outer.specs.Lanes.{Are}
 use Rattle.outer.proofs.Cuts.{set_more}
 use Rattle.outer.proofs.correction.locator_multiples.Goals as goal
 
-pub loop-i-init : goal.loop-i-init
-loop-i-init g c = (refl, λ k h. absurd (omega arith))
-
 pub loop-i-preserved : goal.loop-i-preserved
 unfolding locator
 loop-i-preserved g c =
     let f = g.F.Field.meaning c.args.field.now in
     let n = c.args.n in
-    let zs = c.args.places.now.at in
+    let zs = c.args.places.now in
+    let i = c.loop-i.i in
     let made = c.scalar_multiples.result in (
-      length-set c.loop-i.multiples c.loop-i.i made ∙ c.loop-i.invariant.0,
-      set_more (λ (k : ℕ) (m : Multiples). Are f (always (locator f n (get_or zs k 0))) m.rows) (record { rows = [] }) c.loop-i.multiples c.loop-i.i made (omega (arith, c.loop-i.invariant.0))
-          (subst (λ x. Are f (always x) made.rows) (c.power.ensures ∙ ap (λ p. power f (n - 1 - p)) c.from-place.ensures) c.scalar_multiples.ensures) c.loop-i.invariant.1,
+      length-set c.loop-i.multiples i made ∙ c.loop-i.invariant.0,
+      set_more (λ (k : ℕ) (m : Multiples). Are f (always (locator f n (get_or zs k 0))) m.rows) (record { rows = [] }) c.loop-i.multiples i made
+          (omega (arith, c.loop-i.invariant.0, c.loop-i-test.true, c.as_slice-place-items.ensures.few, ap length c.as_slice-place-items.ensures.same))
+          (subst (λ x. Are f (always x) made.rows) (c.power.ensures ∙ ap (λ p. power f (n - 1 - p)) (c.from.ensures ∙ ap (λ l. get_or l i 0) c.as_slice-place-items.ensures.same)) c.scalar_multiples.ensures) c.loop-i.invariant.1,
     )

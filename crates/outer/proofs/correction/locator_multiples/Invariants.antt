@@ -1,7 +1,11 @@
 -- The multiples of the places so far.
-use Rattle.std.proofs.Common.{◌≡◌, length}
-use Rattle.outer.specs.Correction.{LocatorMultiples}
+use Rattle.std.proofs.Common.{◌≡◌, ℕ, ◌<◌, [], length, get_or}
+use Rattle.outer.specs.Cutting.{always}
+use Rattle.outer.specs.Decoding.{locator}
+use Rattle.outer.specs.Lanes.{Are}
 use Rattle.outer.proofs.correction.locator_multiples.Given as goal
 
 abbrev pub invariant-loop-i : goal.invariant-loop-i
-invariant-loop-i g s = (length s.multiples ≡ 16) × LocatorMultiples (g.F.Field.meaning s.field) s.n s.i s.places.at s.multiples
+invariant-loop-i g s =
+    let f = g.F.Field.meaning s.field in
+    (length s.multiples ≡ 16) × ((k : ℕ) → k < s.i → Are f (always (locator f s.n (get_or s.places k 0))) (get_or s.multiples k (record { rows = [] })).rows)

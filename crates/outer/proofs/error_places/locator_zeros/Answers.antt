@@ -1,11 +1,9 @@
 -- A sum of terms that is 0 is one place more, and each term goes on to the next place.
-use Rattle.std.proofs.Common.{◌≡◌, ◌+◌, ◌-◌, ◌*◌, length, take, filter, sym, ap, ◌∙◌, subst, arith}
+use Rattle.std.proofs.Common.{◌≡◌, ◌+◌, ◌-◌, ◌*◌, length, filter, sym, ap, ◌∙◌, arith}
 use native.Mathlib.Nat.{sub-zero}
 use Rattle.std.specs.List.{range_with_len}
 use Rattle.std.proofs.lemmas.Bool.{eq-eqb, ne_eqb}
 use Rattle.galois.specs.Bytes.{power}
-use Rattle.outer.specs.declared.error_places.Places.{Places}
-use Rattle.outer.specs.Correction.{Listed}
 use Rattle.outer.specs.Decoding.{locator, is_located, locator_zeros}
 use Rattle.outer.specs.Lanes.{lane}
 use Rattle.outer.proofs.Terms.{listed_push, listed_stay, term, term_halved, terms_sum}
@@ -19,7 +17,7 @@ loop-p-init g c =
     let rule = g.met.F.Field.rule field in
     let n = c.args.n in
     let cs = c.args.polynomial.now in (
-      λ few. record { begins = ap (λ k. take k c.none-places.result.at) c.none-places.ensures; counted = c.none-places.ensures },
+      λ few. c.none-places.ensures,
       λ h l k.
           c.times-terms.ensures f (lane c.powers-2.result) rule (c.lane_multiples-first.ensures f rule c.scales-scales.ensures) l k
           ∙ ap (λ x. f.mul x (lane cs l)) (c.powers-2.ensures l k)
@@ -36,15 +34,11 @@ loop-p-preserved g c =
     let n = c.args.n in
     let p = c.loop-p.p in
     let t = is_located f n cs in
-    let zs = filter t (range_with_len 0 (p + 1)) in
     let sum = terms_sum f rule (n - 1 - p) cs c.loop-p.terms c.fits-polynomial (c.loop-p.auto.terms.0 ∙ sym c.told-polynomial)
     (λ l h. c.loop-p.invariant.1 c.loop-p-test.true l (omega arith)) in (
       elim c.if-terms-eq0.branch [
-        | then-terms-eq0 w ↦ λ few. subst (λ (q : Places). Listed zs q.at q.count) (sym w.places-is)
-            (listed_push t p c.loop-p.places.at w.and-places.result.at c.loop-p.places.count w.and-places.result.count c.loop-p.invariant.0
-            (eq-eqb _ _ (sym sum ∙ w.if-terms-eq0.true)) w.and-places.ensures few)
-        | else-terms-eq0 w ↦ λ few. subst (λ (q : Places). Listed zs q.at q.count) (sym w.places-is)
-            (listed_stay t p c.loop-p.places.at c.loop-p.places.count c.loop-p.invariant.0 (ne_eqb _ _ (λ e. w.if-terms-eq0.false (sum ∙ e))) few)
+        | then-terms-eq0 w ↦ λ few. w.places-is ∙ listed_push t p c.loop-p.places w.push.new.self c.loop-p.invariant.0 (eq-eqb _ _ (sym sum ∙ w.if-terms-eq0.true)) w.push.ensures few
+        | else-terms-eq0 w ↦ λ few. w.places-is ∙ listed_stay t p c.loop-p.places c.loop-p.invariant.0 (ne_eqb _ _ (λ e. w.if-terms-eq0.false (sum ∙ e))) few
       ],
       λ h l k.
           let one_less : n - 1 - p ≡ n - 1 - (p + 1) + 1 = omega arith in
@@ -61,4 +55,4 @@ returns g c few =
     let t = is_located f c.args.n c.args.polynomial.now in
     let end : c.loop-p.p ≡ c.args.n = omega arith in
     let whole = ap (λ m. filter t (range_with_len 0 m)) end in
-    subst (λ zs. Listed zs c.loop-p.places.at c.loop-p.places.count) whole (c.loop-p.invariant.0 (omega (arith, ap length whole)))
+    c.loop-p.invariant.0 (omega (arith, ap length whole)) ∙ whole

@@ -1,7 +1,10 @@
 -- After j equations the polynomials that are left meet them, and the multiples are those of the next.
+use Rattle.std.proofs.Common.{◌≡◌, length}
 use Rattle.outer.specs.Lanes.{Are}
 use Rattle.outer.specs.Cutting.{from, Cut}
 use Rattle.outer.proofs.locator.annihilator.Given as goal
 
 abbrev pub invariant-loop-j : goal.invariant-loop-j
-invariant-loop-j g l = Cut (g.F.Field.meaning l.field) l.e l.syndromes l._j l.n l.polynomials × Are (g.F.Field.meaning l.field) (from l.syndromes l._j) l.equation.rows
+invariant-loop-j g l =
+    let f = g.F.Field.meaning l.field in
+    (length l.polynomials ≡ 17) × Cut f l.e l.syndromes l._j l.n l.polynomials × Are f (from l.syndromes l._j) l.equation.rows

@@ -6,7 +6,7 @@ use Rattle.outer.proofs.Cuts.{set_more}
 use Rattle.outer.proofs.locator.clear.Goals as goal
 
 pub loop-c-init : goal.loop-c-init
-loop-c-init g c = (omega arith, λ k h. refl, λ k h. refl, λ s j scales are k h m. absurd (omega arith))
+loop-c-init g c = (refl, λ k h. refl, λ k h. refl, λ s j scales are k h m. absurd (omega arith))
 
 pub loop-c-preserved : goal.loop-c-preserved
 loop-c-preserved g c =

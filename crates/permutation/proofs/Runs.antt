@@ -1,12 +1,11 @@
--- A run of neighbouring elements: moved to its places or taken from them, one element after the other.
-use Rattle.std.proofs.Common.{◌≡◌, ℕ, ◌+◌, ◌-◌, ◌*◌, ◌<◌, ◌≤◌, ◌≢◌, List, ◌++◌, length, get_or, take, set, sym, refl, ap, ◌∙◌, ⊎_elim, arith}
-use borrow.Rule.Slice.PartMut.{put_mid}
-use Rattle.std.proofs.lemmas.List.{get_or-set_same, get_or-set_other, get_or_read, get_or-take, get_or_append_left, get_or-append_right, length-take-le}
+-- A run of neighbouring elements, moved to its places one element after the other.
+use Rattle.std.proofs.Common.{◌≡◌, ℕ, ◌+◌, ◌-◌, ◌*◌, ◌<◌, ◌≤◌, ◌≢◌, List, length, get_or, set, sym, refl, ap, ◌∙◌, ⊎_elim, arith}
+use Rattle.std.proofs.lemmas.List.{get_or-set_same, get_or-set_other, get_or_read}
 use Rattle.std.proofs.lemmas.List.Edits.{get_or-between}
 use Rattle.std.proofs.lemmas.Bool.{cases_lt}
 use Rattle.std.specs.List.{between}
-use Rattle.permutation.specs.Arrange.{Arrangement, size, Rearranges, Placed, Taken, TakenRun, Run, Moved, PlacedRun}
-use Rattle.permutation.proofs.Rows.{element_below, row_end, row-length}
+use Rattle.permutation.specs.Arrange.{Arrangement, size, Rearranges, Placed, Run, Moved, PlacedRun}
+use Rattle.permutation.proofs.Rows.{element_below, row-length}
 
 module _ {T : Type 0} (f : ℕ → ℕ) (s : ℕ) where
   -- one more element of a run at its place
@@ -23,17 +22,6 @@ module _ {T : Type 0} (f : ℕ → ℕ) (s : ℕ) where
         (cases_lt k n);
     kept = λ j d away. get_or-set_other zs (f (s + n)) j x d (away n (omega arith)) ∙ moved.kept j d (λ k h. away k (omega arith));
   }
-
-  -- one more element of a run taken from its place
-  pub taken_more : (n : ℕ) (xs ys : List T) (x : T) → n < length ys → f (s + n) < length xs → x ≡ get_or xs (f (s + n)) x → TakenRun f s n xs ys → TakenRun f s (n + 1) xs (set ys n x)
-  taken_more n xs ys x inside low read taken k d h =
-      ⊎_elim
-      (λ l. get_or-set_other ys n k x d (omega arith) ∙ taken k d l)
-      (λ l.
-      let same : k ≡ n = omega arith in
-      ap (λ i. get_or (set ys n x) i d) same ∙ get_or-set_same ys n x d inside ∙ get_or_read xs (f (s + n)) x low read d ∙ ap (λ i. get_or xs (f (s + i)) d) (sym same)
-      )
-      (cases_lt k n)
 
 module _ (a : Arrangement) (law : Rearranges a) where
   -- two elements have two places
@@ -65,10 +53,6 @@ module _ (a : Arrangement) (law : Rearranges a) {row place : ℕ} (column k : �
   put_at : place ≡ a.place (row * a.columns + column + k)
   put_at = put ∙ ap a.place (omega arith)
 
-  -- the place of the element is one of the list
-  pub place_below : place < size a
-  place_below = rw put_at (law.place_below (row * a.columns + column + k) inside)
-
   -- one more element of the row at its place
   pub moved_in_row : {T : Type 0} (run ys zs : List T) {x : T} → length zs ≡ size a → k < length run → x ≡ get_or run k x → Moved a.place (row * a.columns + column) k run ys zs
       → Moved a.place (row * a.columns + column) (k + 1) run ys (set zs place x)
@@ -76,28 +60,6 @@ module _ (a : Arrangement) (law : Rearranges a) {row place : ℕ} (column k : �
       rw put_at (
       moved_more a.place (row * a.columns + column) k run ys zs x (λ i h. places_apart a law _ _ (omega arith) inside) (omega (arith, law.place_below (row * a.columns + column + k) inside)) some read moved
       )
-
-  -- one more element of the row taken from its place
-  pub taken_in_row : {T : Type 0} (xs ys : List T) {x : T} → length xs ≡ size a → k < length ys → x ≡ get_or xs place x → TakenRun a.place (row * a.columns + column) k xs ys
-      → TakenRun a.place (row * a.columns + column) (k + 1) xs (set ys k x)
-  taken_in_row xs ys {x} all some read taken =
-      let here : x ≡ get_or xs (a.place (row * a.columns + column + k)) x = rw put_at at read in
-      taken_more a.place (row * a.columns + column) k xs ys x some (omega (arith, law.place_below (row * a.columns + column + k) inside)) here taken
-
--- a run taken after the elements before it is one run more
-pub taken_run : {T : Type 0} (f : ℕ → ℕ) (s n : ℕ) (xs ys run rest : List T) → s ≤ length ys → length run ≡ n → Taken f s xs ys → TakenRun f s n xs run → Taken f (s + n) xs (take s ys ++ (run ++ rest))
-taken_run f s n xs ys run rest low long before taken i d h =
-    let front : length (take s ys) ≡ s = length-take-le s ys low in
-    ⊎_elim
-    (λ l. get_or_append_left (take s ys) (run ++ rest) d i (omega arith) ∙ get_or-take s ys i d l ∙ before i d l)
-    (λ l.
-    let at : s + (i - s) ≡ i = omega arith in
-    get_or-append_right (take s ys) (run ++ rest) s i d front l
-    ∙ get_or_append_left run rest d (i - s) (omega arith)
-    ∙ taken (i - s) d (omega arith)
-    ∙ ap (λ j. get_or xs (f j) d) at
-    )
-    (cases_lt i s)
 
 module _ (a : Arrangement) {row columns : ℕ} (within : row < a.rows) (wide : columns ≡ a.columns) where
   -- a row moved to its places is one row more
@@ -110,12 +72,3 @@ module _ (a : Arrangement) {row columns : ℕ} (within : row < a.rows) (wide : c
       λ k e l. get_or-between xs (row * columns) ((row + 1) * columns) k e (omega arith) ∙ ap (λ j. get_or xs j e) (omega arith)
       in
       put.placed xs run (λ j e l. before j e (omega arith)) i d (omega arith)
-
-  -- a row taken from its places is one row more
-  pub taken_row : {T : Type 0} (xs ys run : List T) → length ys ≡ size a → length run ≡ length (between (row * columns) ((row + 1) * columns) ys) → TakenRun a.place (row * a.columns + 0) (length run) xs run → Taken a.place (row * a.columns) xs ys
-      → Taken a.place ((row + 1) * a.columns) xs (put_mid (row * columns) ((row + 1) * columns - row * columns) ys run)
-  taken_row xs ys run many same taken before i d h =
-      let long : length run ≡ columns = same ∙ row-length a within wide ys many in
-      let from : row * columns ≡ row * a.columns = ap (λ n. row * n) wide in
-      taken_run a.place (row * columns) columns xs ys run _ (omega (arith, row_end a within wide)) long (λ j e l. before j e (omega arith))
-      (λ k e l. taken k e (omega arith) ∙ ap (λ j. get_or xs (a.place j) e) (omega arith)) i d (omega arith)

@@ -1,7 +1,7 @@
 // The eleven numbers of a plan, as they are written down.
 
 // A plan as its eleven numbers, in their order: nothing is known of them until they are judged.
-#[derive(Clone, Copy)]
+#[derive(Clone, Copy, Debug, PartialEq, Eq)]
 pub struct PlanNumbers {
     // 1 or 2: the field of bytes.
     pub field: usize,
@@ -28,7 +28,7 @@ pub struct PlanNumbers {
 }
 
 // One of the eleven.
-#[derive(Clone, Copy)]
+#[derive(Clone, Copy, Debug, PartialEq, Eq)]
 pub enum PlanNumber {
     Field,
     Root,

@@ -1,5 +1,5 @@
 -- Numbers that are within their limits, as facts.
-use Rattle.std.proofs.Common.{◌≡◌, ℕ, ◌+◌, ◌-◌, ◌*◌, ◌≤◌, Bool, true, false, cond, ◌&&◌, eqb, leb, List, [], ◌∷◌, ◌++◌, Some, None, Option, Ok, Err, Result, sym, refl, ap, ◌∙◌, mul-le-mul, mul-add, arith}
+use Rattle.std.proofs.Common.{◌≡◌, ℕ, ◌+◌, ◌-◌, ◌*◌, ◌≤◌, Bool, true, false, cond, ◌&&◌, eqb, leb, List, [], ◌∷◌, ◌++◌, Some, None, Option, Ok, Err, sym, refl, ap, ◌∙◌, mul-le-mul, mul-add, arith}
 use Rattle.std.proofs.lemmas.Bool.{and_parts, leb-true}
 use Rattle.limits.specs.declared.numbers.PlanNumbers.{PlanNumbers}
 use Rattle.limits.specs.declared.numbers.PlanNumber.{PlanNumber}
@@ -151,11 +151,11 @@ sound p h =
     }
 
 -- what refuses numbers, and what does not
-some_judged : (o : Option PlanNumber) (w : PlanNumber) → Err w ≡ judged o → o ≡ Some w
+pub some_judged : (o : Option PlanNumber) (w : PlanNumber) → Err w ≡ judged o → o ≡ Some w
 some_judged None w h = absurd (let z : ◌≡◌ {A = ℕ} 0 1 = cc in omega arith)
 some_judged (Some v) w h = cc
 
-none_judged : (o : Option PlanNumber) → Ok tt ≡ judged o → o ≡ None
+pub none_judged : (o : Option PlanNumber) → Ok tt ≡ judged o → o ≡ None
 none_judged None h = refl
 none_judged (Some v) h = absurd (let z : ◌≡◌ {A = ℕ} 0 1 = cc in omega arith)
 

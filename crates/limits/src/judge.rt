@@ -1,21 +1,30 @@
 // Judging the eleven numbers of a plan.
-ghost use Rattle.std.specs.Prelude.{◌≡◌, ◌*◌, ◌≤◌, ◌&&◌, None, Some, MatchResult, nat_le};
-ghost use Rattle.limits.specs.Limits.{code_limits, stage_limits, carrier_limits, first_wrong, first_out, judged, plan_report, rate_of, mark_count, between};
+ghost use Rattle.std.specs.Prelude.{◌≡◌, ◌*◌, ◌≤◌, ◌&&◌, None, Some, MatchResult, nat_le, true, false, ◌+◌};
+ghost use Rattle.convolution.specs.Code.{marks_before};
+ghost use Rattle.limits.specs.Limits.{code_limits, stage_limits, carrier_limits, first_wrong, first_out, judged, plan_report, rate_of, coded_length, between};
 
 use crate::numbers::{PlanNumber, PlanNumbers};
 use convolution::rate::Rate;
 use stack::fault::Report;
 
 // The rate of a number from 1 to 4.
+fn rate(number: usize) -> Result<Rate, PlanNumber>
+    ensures { MatchResult result (λ r. (between 1 4 number ≡ true) × (r ≡ rate_of number)) (λ w. (between 1 4 number ≡ false) × (w ≡ PlanNumber.Rate)) }
+{
+    match number {
+        1 => Ok(Rate::Half),
+        2 => Ok(Rate::TwoThirds),
+        3 => Ok(Rate::ThreeQuarters),
+        4 => Ok(Rate::Third),
+        _ => Err(PlanNumber::Rate),
+    }
+}
+
+// The rate of a number from 1 to 4, one third for any other.
 pub fn rate_by_number(number: usize) -> Rate
     ensures { result ≡ rate_of number }
 {
-    match number {
-        1 => Rate::Half,
-        2 => Rate::TwoThirds,
-        3 => Rate::ThreeQuarters,
-        _ => Rate::Third,
-    }
+    rate(number).unwrap_or(Rate::Third)
 }
 
 // The first number, in their order, that is out of its limit, refuses them.
@@ -106,25 +115,23 @@ impl Coded {
         ensures { self.now.numbers.carrier ≡ 1 → result ≡ judged (first_wrong (carrier_limits self.now.numbers)) }
     {
         let p = self.numbers;
-        if p.rate < 1 || p.rate > 4 {
-            return Err(PlanNumber::Rate);
-        }
+        let rate = rate(p.rate)?;
         if p.rows < 1 {
             return Err(PlanNumber::Rows);
         }
-        if !self.columns_fit() {
+        if !self.columns_fit(rate) {
             return Err(PlanNumber::Columns);
         }
         Ok(())
     }
 
     // Whether the columns of the line have room for the marks, at most 98,304 symbols in all.
-    fn columns_fit(&self) -> bool
-        ensures { result ≡ (nat_le 1 self.now.numbers.columns && between (mark_count self.now.numbers) 98304 (self.now.numbers.rows * self.now.numbers.columns)) }
+    fn columns_fit(&self, rate: Rate) -> bool
+        ensures { result ≡ (nat_le 1 self.now.numbers.columns && between (marks_before rate (8 * coded_length self.now.numbers + 6)) 98304 (self.now.numbers.rows * self.now.numbers.columns)) }
     {
         let p = self.numbers;
         let steps = 8 * (p.words * (p.length + 2 * p.errors)) + 6;
-        let marks = rate_by_number(p.rate).mark_count(steps);
+        let marks = rate.mark_count(steps);
         match p.rows.checked_mul(p.columns) {
             Some(room) => p.columns >= 1 && marks <= room && room <= 98304,
             None => false,

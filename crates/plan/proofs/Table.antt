@@ -1,5 +1,5 @@
 -- Every listed plan is within the limits, and its unit divides its data.
-use Rattle.std.proofs.Common.{◌≡◌, ℕ, ◌+◌, ◌*◌, ◌/◌, ◌%◌, ◌≤◌, Bool, true, false, cond, ◌&&◌, ◌==◌, eqb, leb, List, [], ◌∷◌, ◌++◌, Some, None, Option, sym, refl, ap, ◌∙◌, subst, arith}
+use Rattle.std.proofs.Common.{◌≡◌, ℕ, ◌+◌, ◌*◌, ◌/◌, ◌%◌, ◌≤◌, Bool, true, false, cond, ◌&&◌, ◌==◌, eqb, leb, List, [], ◌∷◌, ◌++◌, Some, Option, sym, refl, ap, ◌∙◌, subst, arith}
 use Rattle.std.proofs.lemmas.Bool.{and_parts, eqb-true, leb-true}
 use Rattle.std.specs.List.{find}
 use Rattle.std.specs.Option.{option_map}
@@ -8,7 +8,6 @@ use Rattle.convolution.specs.declared.rate.Rate.{Rate}
 use Rattle.convolution.specs.declared.rate.Rate.TheVariants.{Half, TwoThirds, ThreeQuarters, Third}
 use Rattle.convolution.proofs.Pattern.{count_half, count_third, count_two_thirds, count_three_quarters}
 use Rattle.plan.specs.declared.listed.Listed.{Listed}
-use Rattle.limits.specs.declared.numbers.PlanNumbers.{PlanNumbers}
 use Rattle.limits.specs.Numbers.{numbers_of}
 use Rattle.limits.specs.Limits.{within, all_hold, code_limits, stage_limits, limits_with_marks, coded_length, data_length, rate_of}
 use Rattle.plan.specs.Listed.{table, layout_of, among, listed}

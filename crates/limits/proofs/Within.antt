@@ -1,9 +1,9 @@
 -- Numbers that are within their limits, as facts.
-use Rattle.std.proofs.Common.{◌≡◌, ℕ, ◌+◌, ◌-◌, ◌*◌, ◌≤◌, Bool, true, false, cond, ◌&&◌, eqb, leb, List, [], ◌∷◌, ◌++◌, Some, None, sym, refl, ap, ◌∙◌, mul-le-mul, mul-add, arith}
+use Rattle.std.proofs.Common.{◌≡◌, ℕ, ◌+◌, ◌-◌, ◌*◌, ◌≤◌, Bool, true, false, cond, ◌&&◌, eqb, leb, List, [], ◌∷◌, ◌++◌, Some, None, Option, Ok, Err, sym, refl, ap, ◌∙◌, mul-le-mul, mul-add, arith}
 use Rattle.std.proofs.lemmas.Bool.{and_parts, leb-true}
 use Rattle.limits.specs.declared.numbers.PlanNumbers.{PlanNumbers}
 use Rattle.limits.specs.declared.numbers.PlanNumber.{PlanNumber}
-use Rattle.limits.specs.Limits.{Limit, on_bare, air_length, limits, code_limits, stage_limits, carrier_limits, first_wrong, first_out, within, all_hold, body_length, data_length, coded_length, mark_count, between}
+use Rattle.limits.specs.Limits.{Limit, on_bare, air_length, limits, code_limits, stage_limits, carrier_limits, first_wrong, first_out, judged, within, all_hold, body_length, data_length, coded_length, mark_count, between}
 
 -- the limits of the outer code
 pub record CodeWithin (p : PlanNumbers) : Type 0 where
@@ -150,18 +150,29 @@ sound p h =
       line = line_within p parts.2;
     }
 
+-- what refuses numbers, and what does not
+pub some_judged : (o : Option PlanNumber) (w : PlanNumber) → Err w ≡ judged o → o ≡ Some w
+some_judged None w h = absurd (let z : ◌≡◌ {A = ℕ} 0 1 = cc in omega arith)
+some_judged (Some v) w h = cc
+
+pub none_judged : (o : Option PlanNumber) → Ok tt ≡ judged o → o ≡ None
+none_judged None h = refl
+none_judged (Some v) h = absurd (let z : ◌≡◌ {A = ℕ} 0 1 = cc in omega arith)
+
 -- three judges, one after another
 pub first_by_code : (p : PlanNumbers) (w : PlanNumber) → first_wrong (code_limits p) ≡ Some w → first_out p ≡ Some w
 unfolding first_out
 first_by_code p w h = sooner_wrong (code_limits p) (stage_limits p ++ carrier_limits p) w h
 
-pub first_by_stages : (p : PlanNumbers) (w : PlanNumber) → first_wrong (code_limits p) ≡ None → first_wrong (stage_limits p) ≡ Some w → first_out p ≡ Some w
+pub first_by_stages : (p : PlanNumbers) (w : PlanNumber) → first_wrong (code_limits p) ≡ None → Err w ≡ judged (first_wrong (stage_limits p)) → first_out p ≡ Some w
 unfolding first_out
-first_by_stages p w h k = later_wrong (code_limits p) (stage_limits p ++ carrier_limits p) h ∙ sooner_wrong (stage_limits p) (carrier_limits p) w k
+first_by_stages p w h k =
+    later_wrong (code_limits p) (stage_limits p ++ carrier_limits p) h ∙ sooner_wrong (stage_limits p) (carrier_limits p) w (some_judged (first_wrong (stage_limits p)) w k)
 
-pub first_by_carrier : (p : PlanNumbers) → first_wrong (code_limits p) ≡ None → first_wrong (stage_limits p) ≡ None → first_out p ≡ first_wrong (carrier_limits p)
+pub first_by_carrier : (p : PlanNumbers) → first_wrong (code_limits p) ≡ None → Ok tt ≡ judged (first_wrong (stage_limits p)) → first_out p ≡ first_wrong (carrier_limits p)
 unfolding first_out
-first_by_carrier p h k = later_wrong (code_limits p) (stage_limits p ++ carrier_limits p) h ∙ later_wrong (stage_limits p) (carrier_limits p) k
+first_by_carrier p h k =
+    later_wrong (code_limits p) (stage_limits p ++ carrier_limits p) h ∙ later_wrong (stage_limits p) (carrier_limits p) (none_judged (first_wrong (stage_limits p)) k)
 
 pub none_out : (p : PlanNumbers) → first_out p ≡ None → within p ≡ true
 unfolding first_out within

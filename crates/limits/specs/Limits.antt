@@ -1,5 +1,5 @@
 -- The limits of a plan's eleven numbers, in the order in which they are judged.
-use Rattle.std.specs.Prelude.{ℕ, ◌+◌, ◌-◌, ◌*◌, Bool, true, cond, ◌&&◌, List, [], ◌∷◌, ◌++◌, Some, None, Option, ◌==◌, nat_le}
+use Rattle.std.specs.Prelude.{ℕ, ◌+◌, ◌-◌, ◌*◌, Bool, true, cond, ◌&&◌, List, [], ◌∷◌, ◌++◌, Some, None, Option, ◌==◌, nat_le, Ok, Err, Result}
 use Rattle.convolution.specs.declared.rate.Rate.{Rate}
 use Rattle.convolution.specs.declared.rate.Rate.TheVariants.{Half, TwoThirds, ThreeQuarters, Third}
 use Rattle.convolution.specs.Code.{marks_before}
@@ -78,6 +78,11 @@ limits p = code_limits p ++ stage_limits p ++ carrier_limits p
 abbrev pub first_wrong : List Limit → Option PlanNumber
 first_wrong [] = None
 first_wrong (l ∷ ls) = cond l.holds (first_wrong ls) (Some l.number)
+
+-- numbers are refused for the first that is wrong, if there is one
+abbrev pub judged : Option PlanNumber → Result (Unit {0}) PlanNumber
+judged None = Ok tt
+judged (Some w) = Err w
 
 -- all of them hold
 abbrev pub all_hold : List Limit → Bool

@@ -1,130 +1,142 @@
 // Judging the eleven numbers of a plan.
-ghost use Rattle.std.specs.Prelude.{◌≡◌, ◌+◌, ◌-◌, ◌*◌, ◌≤◌, true, ◌&&◌, nat_le};
-ghost use Rattle.limits.specs.Limits.{code_limits, stage_limits, carrier_limits, first_wrong, first_out, plan_report, rate_of, mark_count, between};
+ghost use Rattle.std.specs.Prelude.{◌≡◌, ◌*◌, ◌≤◌, ◌&&◌, None, Some, MatchResult, nat_le, true, false, ◌+◌};
+ghost use Rattle.convolution.specs.Code.{marks_before};
+ghost use Rattle.limits.specs.Limits.{code_limits, stage_limits, carrier_limits, first_wrong, first_out, judged, plan_report, rate_of, coded_length, between};
 
 use crate::numbers::{PlanNumber, PlanNumbers};
 use convolution::rate::Rate;
 use stack::fault::Report;
 
-// The first number of the outer code that is out of its limit.
-fn wrong_code(p: PlanNumbers) -> Option<PlanNumber>
-    ensures { result ≡ first_wrong (code_limits p) }
-{
-    if p.field < 1 || p.field > 2 {
-        return Some(PlanNumber::Field);
-    }
-    if p.root > 254 {
-        return Some(PlanNumber::Root);
-    }
-    if p.words < 1 || p.words > 16 {
-        return Some(PlanNumber::Words);
-    }
-    if p.length < 1 || p.length > 253 {
-        return Some(PlanNumber::Length);
-    }
-    if p.errors < 1 || p.errors > 16 || p.length + 2 * p.errors > 255 {
-        return Some(PlanNumber::Errors);
-    }
-    None
-}
-
-// The first number of the stages above the outer code that is out of its limit.
-fn wrong_stages(p: PlanNumbers) -> Option<PlanNumber>
-    requires { (p.words ≤ 16) × (p.length ≤ 253) }
-    ensures { result ≡ first_wrong (stage_limits p) }
-{
-    if p.seed > 32767 {
-        return Some(PlanNumber::Seed);
-    }
-    if p.check > 1 || p.words * p.length <= p.check {
-        return Some(PlanNumber::Check);
-    }
-    None
-}
-
 // The rate of a number from 1 to 4.
+fn rate(number: usize) -> Result<Rate, PlanNumber>
+    ensures { MatchResult result (λ r. (between 1 4 number ≡ true) × (r ≡ rate_of number)) (λ w. (between 1 4 number ≡ false) × (w ≡ PlanNumber.Rate)) }
+{
+    match number {
+        1 => Ok(Rate::Half),
+        2 => Ok(Rate::TwoThirds),
+        3 => Ok(Rate::ThreeQuarters),
+        4 => Ok(Rate::Third),
+        _ => Err(PlanNumber::Rate),
+    }
+}
+
+// The rate of a number from 1 to 4, one third for any other.
 pub fn rate_by_number(number: usize) -> Rate
     ensures { result ≡ rate_of number }
 {
-    match number {
-        1 => Rate::Half,
-        2 => Rate::TwoThirds,
-        3 => Rate::ThreeQuarters,
-        _ => Rate::Third,
-    }
+    rate(number).unwrap_or(Rate::Third)
 }
 
-// Whether the columns of the line have room for the marks, at most 98,304 symbols in all.
-fn columns_fit(p: PlanNumbers) -> bool
-    requires { (p.words ≤ 16) × ((p.length ≤ 253) × (p.errors ≤ 16)) }
-    ensures { result ≡ (nat_le 1 p.columns && between (mark_count p) 98304 (p.rows * p.columns)) }
+// The first number, in their order, that is out of its limit, refuses them.
+pub fn first_wrong(p: PlanNumbers) -> Result<(), PlanNumber>
+    ensures { result ≡ judged (first_out p) }
 {
-    let steps = 8 * (p.words * (p.length + 2 * p.errors)) + 6;
-    let marks = rate_by_number(p.rate).mark_count(steps);
-    match p.rows.checked_mul(p.columns) {
-        Some(room) => p.columns >= 1 && marks <= room && room <= 98304,
-        None => false,
-    }
+    let coded = Coded::new(p)?;
+    coded.judge_stages()?;
+    coded.judge_carrier()
 }
 
-// The first number of the carrier that is out of its limit.
-fn wrong_carrier(p: PlanNumbers) -> Option<PlanNumber>
-    requires { (p.words ≤ 16) × ((p.length ≤ 253) × (p.errors ≤ 16)) }
-    ensures { result ≡ first_wrong (carrier_limits p) }
-{
-    if p.carrier > 1 {
-        return Some(PlanNumber::Carrier);
-    }
-    if p.carrier == 0 {
-        return wrong_bare(p);
-    }
-    wrong_line(p)
+// Numbers whose outer code is within its limits.
+#[derive(Clone, Copy)]
+struct Coded {
+    numbers: PlanNumbers,
+    ghost words: { numbers.words ≤ 16 },
+    ghost length: { numbers.length ≤ 253 },
+    ghost errors: { numbers.errors ≤ 16 },
 }
 
-// The first of the last three numbers that is not 0.
-fn wrong_bare(p: PlanNumbers) -> Option<PlanNumber>
-    ensures { p.carrier ≡ 0 → result ≡ first_wrong (carrier_limits p) }
-{
-    if p.rate != 0 {
-        return Some(PlanNumber::Rate);
+impl Coded {
+    // Judges the numbers of the outer code.
+    fn new(p: PlanNumbers) -> Result<Coded, PlanNumber>
+        ensures { MatchResult result (λ c. (c.numbers ≡ p) × (first_wrong (code_limits p) ≡ None)) (λ w. first_wrong (code_limits p) ≡ Some w) }
+    {
+        if p.field < 1 || p.field > 2 {
+            return Err(PlanNumber::Field);
+        }
+        if p.root > 254 {
+            return Err(PlanNumber::Root);
+        }
+        if p.words < 1 || p.words > 16 {
+            return Err(PlanNumber::Words);
+        }
+        if p.length < 1 || p.length > 253 {
+            return Err(PlanNumber::Length);
+        }
+        if p.errors < 1 || p.errors > 16 || p.length + 2 * p.errors > 255 {
+            return Err(PlanNumber::Errors);
+        }
+        Ok(Coded { numbers: p })
     }
-    if p.rows != 0 {
-        return Some(PlanNumber::Rows);
-    }
-    if p.columns != 0 {
-        return Some(PlanNumber::Columns);
-    }
-    None
-}
 
-// The first of the line's rate, rows and columns that is out of its limit.
-fn wrong_line(p: PlanNumbers) -> Option<PlanNumber>
-    requires { (p.words ≤ 16) × ((p.length ≤ 253) × (p.errors ≤ 16)) }
-    ensures { p.carrier ≡ 1 → result ≡ first_wrong (carrier_limits p) }
-{
-    if p.rate < 1 || p.rate > 4 {
-        return Some(PlanNumber::Rate);
+    // Judges the numbers of the stages above the outer code.
+    fn judge_stages(&self) -> Result<(), PlanNumber>
+        ensures { result ≡ judged (first_wrong (stage_limits self.now.numbers)) }
+    {
+        let p = self.numbers;
+        if p.seed > 32767 {
+            return Err(PlanNumber::Seed);
+        }
+        if p.check > 1 || p.words * p.length <= p.check {
+            return Err(PlanNumber::Check);
+        }
+        Ok(())
     }
-    if p.rows < 1 {
-        return Some(PlanNumber::Rows);
-    }
-    if !columns_fit(p) {
-        return Some(PlanNumber::Columns);
-    }
-    None
-}
 
-// The first number, in their order, that is out of its limit, if there is one.
-pub fn first_wrong(p: PlanNumbers) -> Option<PlanNumber>
-    ensures { result ≡ first_out p }
-{
-    if let Some(number) = wrong_code(p) {
-        return Some(number);
+    // Judges the numbers of the carrier.
+    fn judge_carrier(&self) -> Result<(), PlanNumber>
+        ensures { result ≡ judged (first_wrong (carrier_limits self.now.numbers)) }
+    {
+        match self.numbers.carrier {
+            0 => self.judge_bare(),
+            1 => self.judge_line(),
+            _ => Err(PlanNumber::Carrier),
+        }
     }
-    if let Some(number) = wrong_stages(p) {
-        return Some(number);
+
+    // Judges the last three numbers on the bare carrier, where each is 0.
+    fn judge_bare(&self) -> Result<(), PlanNumber>
+        ensures { self.now.numbers.carrier ≡ 0 → result ≡ judged (first_wrong (carrier_limits self.now.numbers)) }
+    {
+        let p = self.numbers;
+        if p.rate != 0 {
+            return Err(PlanNumber::Rate);
+        }
+        if p.rows != 0 {
+            return Err(PlanNumber::Rows);
+        }
+        if p.columns != 0 {
+            return Err(PlanNumber::Columns);
+        }
+        Ok(())
     }
-    wrong_carrier(p)
+
+    // Judges the rate, rows and columns of the line.
+    fn judge_line(&self) -> Result<(), PlanNumber>
+        ensures { self.now.numbers.carrier ≡ 1 → result ≡ judged (first_wrong (carrier_limits self.now.numbers)) }
+    {
+        let p = self.numbers;
+        let rate = rate(p.rate)?;
+        if p.rows < 1 {
+            return Err(PlanNumber::Rows);
+        }
+        if !self.columns_fit(rate) {
+            return Err(PlanNumber::Columns);
+        }
+        Ok(())
+    }
+
+    // Whether the columns of the line have room for the marks, at most 98,304 symbols in all.
+    fn columns_fit(&self, rate: Rate) -> bool
+        ensures { result ≡ (nat_le 1 self.now.numbers.columns && between (marks_before rate (8 * coded_length self.now.numbers + 6)) 98304 (self.now.numbers.rows * self.now.numbers.columns)) }
+    {
+        let p = self.numbers;
+        let steps = 8 * (p.words * (p.length + 2 * p.errors)) + 6;
+        let marks = rate.mark_count(steps);
+        match p.rows.checked_mul(p.columns) {
+            Some(room) => p.columns >= 1 && marks <= room && room <= 98304,
+            None => false,
+        }
+    }
 }
 
 impl PlanNumber {

@@ -1,7 +1,9 @@
 // The eleven numbers of a plan, as they are written down.
+ghost use Rattle.std.specs.Prelude.{◌≡◌};
+ghost use Rattle.limits.specs.Numbers.{numbers_of};
 
 // A plan as its eleven numbers, in their order: nothing is known of them until they are judged.
-#[derive(Clone, Copy)]
+#[derive(Clone, Copy, Debug, PartialEq, Eq)]
 pub struct PlanNumbers {
     // 1 or 2: the field of bytes.
     pub field: usize,
@@ -28,7 +30,7 @@ pub struct PlanNumbers {
 }
 
 // One of the eleven.
-#[derive(Clone, Copy)]
+#[derive(Clone, Copy, Debug, PartialEq, Eq)]
 pub enum PlanNumber {
     Field,
     Root,
@@ -41,4 +43,38 @@ pub enum PlanNumber {
     Rate,
     Rows,
     Columns,
+}
+
+// Eleven numbers in their order, by their names.
+impl From<[usize; 11]> for PlanNumbers {
+    ghost from_gives = { λ ns p. p ≡ numbers_of ns };
+
+    fn from(numbers: [usize; 11]) -> PlanNumbers {
+        let [
+            field,
+            root,
+            words,
+            length,
+            errors,
+            seed,
+            check,
+            carrier,
+            rate,
+            rows,
+            columns,
+        ] = numbers;
+        PlanNumbers {
+            field,
+            root,
+            words,
+            length,
+            errors,
+            seed,
+            check,
+            carrier,
+            rate,
+            rows,
+            columns,
+        }
+    }
 }

@@ -1,18 +1,13 @@
 -- A plan's carrier is there where the plan is on it.
-use Rattle.std.proofs.Common.{◌≡◌, ℕ, ◌+◌, ◌*◌, ◌≤◌, true, false, Some, None, Option, sym, ◌∙◌, subst, ap₂, mul-le-mul, arith, MatchOption}
+use Rattle.std.proofs.Common.{◌≡◌, ℕ, ◌+◌, ◌*◌, ◌≤◌, true, false, Some, None, Option, sym, ◌∙◌, subst, ap₂, arith, MatchOption}
 use Rattle.convolution.specs.declared.rate.Rate.{Rate}
 use Rattle.convolution.specs.Code.{marks_before}
 use Rattle.line.specs.declared.line.Line.{Line}
 use Rattle.stack.specs.declared.bare.Bare.{Bare}
 use Rattle.limits.specs.declared.numbers.PlanNumbers.{PlanNumbers}
-use Rattle.limits.specs.Limits.{word_length, coded_length, rate_of}
+use Rattle.limits.specs.Limits.{coded_length, rate_of}
 use Rattle.limits.specs.Limits.{on_bare}
-use Rattle.limits.proofs.Within.{Sound, coded_high}
-
-coded_low : (p : PlanNumbers) → Sound p → 1 ≤ coded_length p
-coded_low p s =
-    let wide : 1 ≤ word_length p = omega (arith, s.code.length_low) in
-    mul-le-mul s.code.words_low wide
+use Rattle.limits.proofs.Within.{Sound, coded_low, coded_high}
 
 pub bare_made : {n : ℕ} (p : PlanNumbers) → Sound p → on_bare p ≡ true → n ≡ coded_length p → (r : Option Bare) → MatchOption r ((1 ≤ n × n ≤ 98304) → ⊥) (λ b. b.length ≡ n)
     → MatchOption r (on_bare p ≡ false) (λ b. (on_bare p ≡ true) × (b.length ≡ coded_length p))

@@ -4,7 +4,6 @@ use Rattle.std.proofs.lemmas.Bool.{ne_eqb}
 use Rattle.galois.specs.declared.chosen.AnyField.{AnyField}
 use Rattle.reed_solomon.specs.declared.stage.ReedSolomon.{ReedSolomon}
 use Rattle.reed_solomon.specs.Coding.{coding}
-use Rattle.reed_solomon.specs.Protecting.{Apart}
 use Rattle.stack.specs.Meaning.{StageMeaning, CarrierMeaning, Meets}
 use Rattle.stack.specs.Optional.{with_stage, MeetsIfAny}
 use Rattle.stack.specs.Rules.{CarrierRule}
@@ -142,19 +141,3 @@ module _ {R C : Type 0} (meaning : C → CarrierMeaning R) (fits : C → Type 0)
   check_unfit F down fit refuse P meets high =
       refuse (fit P) (check_meets p unit s (meaning foot) (rule foot (down (fit P))) (ap (λ x. (meaning x).body) same ∙ meets) (subst (λ x. (meaning x).height + length (plan_stages p unit) ≤ 32) (sym same) high)
       check (with_stage randomiser_meaning randomiser (low_meaning code block (meaning foot))) a middle)
-
--- a randomiser that does not meet the code below it
-pub randomiser_unfit : {R C : Type 0} (meaning : C → CarrierMeaning R) (fits : C → Type 0) → ((x : C) → fits x → CarrierRule (meaning x)) → (p : PlanNumbers) (unit : ℕ) → Sound p
-    → (randomiser : Option Randomiser) (code : ReedSolomon AnyField) (block : Interleaver) (foot carrier : C) → foot ≡ carrier → stage_list randomiser_meaning randomiser ≡ randomiser_part p unit
-    → code_meaning code ∷ interleaver_meaning block ∷ [] ≡ code_part p → (F : Type 0) → (F → fits foot) → (fits carrier → F)
-    → (F → MeetsIfAny randomiser_meaning randomiser (low_meaning code block (meaning foot)) → ⊥) → fits carrier → Unfitting p unit (meaning carrier)
-randomiser_unfit meaning fits rule p unit s randomiser code block foot carrier same b d F down fit refuse P meets high =
-    refuse (fit P) (randomiser_meets p unit s (meaning foot) (rule foot (down (fit P))) (ap (λ x. (meaning x).body) same ∙ meets) (subst (λ x. (meaning x).height + length (plan_stages p unit) ≤ 32) (sym same) high)
-    randomiser (low_meaning code block (meaning foot)) b (low_is p code block (meaning foot) d))
-
--- a code that does not stand on the carrier
-pub code_unfit : {R : Type 0} (p : PlanNumbers) (unit : ℕ) (code : ReedSolomon AnyField) (c : CarrierMeaning R) → CodeOf p code.field code.root code.words code.length code.errors
-    → Apart code.words code.length code.errors c → Unfitting p unit c
-code_unfit p unit code c of apart meets high =
-    let long : code.words * (code.length + 2 * code.errors) ≡ coded_length p = λ i. of.words_is i * (of.length_is i + 2 * of.errors_is i) in
-    apart (meets ∙ sym long) (omega (arith, length-append (check_part p) (randomiser_part p unit ++ code_part p), length-append (randomiser_part p unit) (code_part p)))

@@ -1,15 +1,16 @@
 -- Every listed plan is within the limits, and its unit divides its data.
-use Rattle.std.proofs.Common.{◌≡◌, ℕ, zero, suc, ◌+◌, ◌*◌, ◌/◌, ◌%◌, ◌<◌, ◌≤◌, Bool, true, false, cond, ◌&&◌, eqb, leb, List, [], ◌∷◌, ◌++◌, length, get_or, drop, Some, None, sym, refl, ap, ◌∙◌, subst, le_of_suc-le-suc, add-one, arith, drop-cons, eq-eqb, ne_eqb}
+use Rattle.std.proofs.Common.{◌≡◌, ℕ, ◌+◌, ◌*◌, ◌/◌, ◌%◌, ◌≤◌, Bool, true, false, cond, ◌&&◌, ◌==◌, eqb, leb, List, [], ◌∷◌, ◌++◌, Some, Option, sym, refl, ap, ◌∙◌, subst, arith}
 use Rattle.std.proofs.lemmas.Bool.{and_parts, eqb-true, leb-true}
+use Rattle.std.specs.List.{find}
+use Rattle.std.specs.Option.{option_map}
 use Rattle.convolution.specs.Code.{marks_before}
 use Rattle.convolution.specs.declared.rate.Rate.{Rate}
 use Rattle.convolution.specs.declared.rate.Rate.TheVariants.{Half, TwoThirds, ThreeQuarters, Third}
 use Rattle.convolution.proofs.Pattern.{count_half, count_third, count_two_thirds, count_three_quarters}
 use Rattle.plan.specs.declared.listed.Listed.{Listed}
-use Rattle.limits.specs.declared.numbers.PlanNumbers.{PlanNumbers}
+use Rattle.limits.specs.Numbers.{numbers_of}
 use Rattle.limits.specs.Limits.{within, all_hold, code_limits, stage_limits, limits_with_marks, coded_length, data_length, rate_of}
-use Rattle.plan.specs.Stacks.{Layout}
-use Rattle.plan.specs.Listed.{table, blank, numbers_of, layout_of, among, listed}
+use Rattle.plan.specs.Listed.{table, layout_of, among, listed}
 
 -- the number of kept marks, without counting them step by step
 counted : Rate → ℕ → ℕ
@@ -40,15 +41,14 @@ table_good : all_good table ≡ true
 unfolding table all_good good counted
 table_good = refl
 
-pub table-length : length table ≡ 69
-unfolding table
-table-length = refl
-
-good_at : (rs : List Listed) (i : ℕ) → all_good rs ≡ true → i < length rs → good (get_or rs i blank) ≡ true
+good_found : (rs : List Listed) (test : Listed → Bool) (r : Listed) → all_good rs ≡ true → find test rs ≡ Some r → good r ≡ true
 unfolding all_good
-good_at [] i t h = absurd (omega arith)
-good_at (r ∷ rs) zero t h = (and_parts (good r) (all_good rs) t).0
-good_at (r ∷ rs) (suc i) t h = good_at rs i (and_parts (good r) (all_good rs) t).1 (le_of_suc-le-suc h)
+good_found [] test r t h = absurd (let z : ◌≡◌ {A = ℕ} 0 1 = cc in omega arith)
+good_found (s ∷ rs) test r t h = go (good_found rs test r (and_parts (good s) (all_good rs) t).1) (test s) h
+  where
+    go : (find test rs ≡ Some r → good r ≡ true) → (b : Bool) → cond b (Some s) (find test rs) ≡ Some r → good r ≡ true
+    go rest true e = let same : s ≡ r = cc in subst (λ x. good x ≡ true) same (and_parts (good s) (all_good rs) t).0
+    go rest false e = rest e
 
 -- the facts of a row
 pub record Good (r : Listed) : Type 0 where
@@ -68,38 +68,18 @@ good_row r h =
       whole = eqb-true _ _ units.1;
     }
 
-pub good_listed : (i : ℕ) → i < 69 → Good (get_or table i blank)
-good_listed i h = good_row (get_or table i blank) (good_at table i table_good (rw table-length h))
+pub good_listed : (n : ℕ) (r : Listed) → Some r ≡ find (λ s. s.0 == n) table → Good r
+good_listed n r h = good_row r (good_found table (λ s. s.0 == n) r table_good (sym h))
 
--- the row at i is the one that is looked for, or the search goes on behind it
-pub found_at : (i n : ℕ) → i < 69 → (get_or table i blank).0 ≡ n → among (drop i table) n ≡ Some (layout_of (get_or table i blank))
+-- what is laid out is the row that is found
+among_find : (rs : List Listed) (n : ℕ) → option_map layout_of (find (λ r. r.0 == n) rs) ≡ among rs n
 unfolding among
-found_at i n h e =
-    ap (λ (rs : List Listed). among rs n) (drop-cons table i blank (rw table-length h))
-    ∙ ap (λ (b : Bool). cond b (Some (layout_of (get_or table i blank))) (among (drop (suc i) table) n)) (eq-eqb (get_or table i blank).0 n e)
+among_find [] n = refl
+among_find (r ∷ rs) n = go (among_find rs n) (r.0 == n)
+  where
+    go : option_map layout_of (find (λ s. s.0 == n) rs) ≡ among rs n → (b : Bool) → option_map layout_of (cond b (Some r) (find (λ s. s.0 == n) rs)) ≡ cond b (Some (layout_of r)) (among rs n)
+    go rest true = refl
+    go rest false = rest
 
-pub passed-at : (i n : ℕ) → i < 69 → eqb (get_or table i blank).0 n ≡ false → among (drop i table) n ≡ among (drop (i + 1) table) n
-unfolding among
-passed-at i n h e =
-    ap (λ (rs : List Listed). among rs n) (drop-cons table i blank (rw table-length h))
-    ∙ ap (λ (b : Bool). cond b (Some (layout_of (get_or table i blank))) (among (drop (suc i) table) n)) e
-    ∙ ap (λ (j : ℕ). among (drop j table) n) (sym (add-one i))
-
-pub none_behind : (n : ℕ) → among (drop 69 table) n ≡ None
-unfolding table among
-none_behind n = refl
-
--- the same of a row that was read, and of its numbers
-pub units_of : (i : ℕ) (r : Listed) (p : PlanNumbers) → i < 69 → r ≡ get_or table i blank → p ≡ numbers_of r.1 → (within p ≡ true) × ((1 ≤ r.2) × (data_length p % r.2 ≡ 0))
-units_of i r p h e k =
-    let g = subst Good (sym e) (good_listed i h) in
-    (ap within k ∙ g.inside, (g.unit, ap (λ (q : PlanNumbers). data_length q % r.2) k ∙ g.whole))
-
-pub found : (i n unit : ℕ) (r : Listed) (p q : PlanNumbers) → i < 69 → r ≡ get_or table i blank → p ≡ numbers_of r.1 → q ≡ p → unit ≡ r.2 → r.0 ≡ n → listed n ≡ among (drop i table) n → Some (record { numbers = q; unit = unit }) ≡ listed n
-found i n unit r p q h e k same u at inv =
-    let there = found_at i n h (ap (λ (s : Listed). s.0) (sym e) ∙ at) in
-    let row = ap (λ (s : Listed). layout_of s) e in
-    ap (λ (l : Layout). Some l) (λ j. record { numbers = (same ∙ k) j; unit = u j }) ∙ ap (λ (l : Layout). Some l) row ∙ sym there ∙ sym inv
-
-pub passed : (i n : ℕ) (r : Listed) → i < 69 → r ≡ get_or table i blank → (r.0 ≡ n → ⊥) → listed n ≡ among (drop i table) n → listed n ≡ among (drop (i + 1) table) n
-passed i n r h e other inv = inv ∙ passed-at i n h (ap (λ (s : Listed). eqb s.0 n) (sym e) ∙ ne_eqb r.0 n other)
+pub listed_found : (n : ℕ) (row : Option Listed) → row ≡ find (λ s. s.0 == n) table → option_map layout_of row ≡ listed n
+listed_found n row h = ap (option_map layout_of) h ∙ among_find table n

@@ -1,7 +1,7 @@
 -- The listed plans.
-use Rattle.std.specs.Prelude.{ℕ, cond, List, [], ◌∷◌, Some, None, Option, ◌==◌, slice_index}
+use Rattle.std.specs.Prelude.{ℕ, cond, List, [], ◌∷◌, Some, None, Option, ◌==◌}
 use Rattle.plan.specs.declared.listed.Listed.{Listed}
-use Rattle.limits.specs.declared.numbers.PlanNumbers.{PlanNumbers}
+use Rattle.limits.specs.Numbers.{numbers_of}
 use Rattle.plan.specs.declared.plan.Plan.{Plan}
 use Rattle.plan.specs.Stacks.{Layout}
 
@@ -94,22 +94,6 @@ table =
     ∷ ldacs 87 1 132 9 3 67 24 66
     ∷ ldacs 88 1 198 13 3 67 36 66
     ∷ []
-
--- eleven numbers by their names
-abbrev pub numbers_of : List ℕ → PlanNumbers
-numbers_of ns = record {
-  field = slice_index ns 0;
-  root = slice_index ns 1;
-  words = slice_index ns 2;
-  length = slice_index ns 3;
-  errors = slice_index ns 4;
-  seed = slice_index ns 5;
-  check = slice_index ns 6;
-  carrier = slice_index ns 7;
-  rate = slice_index ns 8;
-  rows = slice_index ns 9;
-  columns = slice_index ns 10;
-}
 
 -- what a row lays out
 abbrev pub layout_of : Listed → Layout

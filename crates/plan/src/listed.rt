@@ -1,15 +1,16 @@
 // The listed plans.
-ghost use Rattle.std.specs.Prelude.{◌≡◌, ◌<◌, slice_index_or};
-ghost use Rattle.plan.specs.Listed.{table, blank, numbers_of, listed, laid};
+ghost use Rattle.std.specs.Prelude.{◌≡◌, ◌==◌};
+ghost use Rattle.std.specs.List.{find};
+ghost use Rattle.std.specs.Option.{option_copied};
+ghost use Rattle.plan.specs.Listed.{listed, laid};
 
 use crate::plan::Plan;
-use limits::numbers::PlanNumbers;
 
 // The randomiser's seed on the air link.
 const SEED: usize = 0x4a80;
 
 // A listed plan: its number, its eleven numbers in their order, and the unit at which the randomiser starts anew.
-#[derive(Clone, Copy)]
+#[derive(Clone, Copy, Debug, PartialEq, Eq)]
 pub struct Listed(pub u8, pub [usize; 11], pub usize);
 
 // Every listed plan.
@@ -85,55 +86,17 @@ const LISTED: [Listed; 69] = [
     Listed(88, [1, 1, 1, 198, 13, SEED, 0, 1, 3, 67, 36], 66),
 ];
 
-// Row i of the table.
-fn row(i: usize) -> Listed
-    requires { i < 69 }
-    ensures { result ≡ slice_index_or table i blank }
+// The row with this number.
+fn row(rows: &[Listed], number: u8) -> Option<&Listed>
+    ensures { option_copied result ≡ find (λ row. row.0 == number) rows.now }
 {
-    LISTED[i]
-}
-
-// Eleven numbers by their names.
-fn numbers_of(numbers: [usize; 11]) -> PlanNumbers
-    ensures { result ≡ numbers_of numbers }
-{
-    let [
-        field,
-        root,
-        words,
-        length,
-        errors,
-        seed,
-        check,
-        carrier,
-        rate,
-        rows,
-        columns,
-    ] = numbers;
-    PlanNumbers {
-        field,
-        root,
-        words,
-        length,
-        errors,
-        seed,
-        check,
-        carrier,
-        rate,
-        rows,
-        columns,
-    }
+    rows.iter().find(|row| row.0 == number)
 }
 
 // The listed plan with this number.
 pub fn listed_plan(number: u8) -> Option<Plan>
     ensures { laid result ≡ listed number }
 {
-    for i in 0..69 {
-        let Listed(n, numbers, unit) = row(i);
-        if n == number {
-            return Some(Plan::in_units(numbers_of(numbers), unit));
-        }
-    }
-    None
+    let &Listed(_, numbers, unit) = row(&LISTED, number)?;
+    Some(Plan::in_units(numbers.into(), unit))
 }

@@ -10,7 +10,7 @@ use limits::judge::first_wrong;
 use limits::numbers::{PlanNumber, PlanNumbers};
 
 // Judged numbers, and the unit of bytes at which the randomiser starts anew.
-#[derive(Clone, Copy)]
+#[derive(Clone, Copy, Debug, PartialEq, Eq)]
 pub struct Plan {
     numbers: PlanNumbers,
     unit: usize,
@@ -24,13 +24,11 @@ impl Plan {
     pub fn new(numbers: PlanNumbers) -> Result<Plan, PlanNumber>
         ensures { MatchResult result (λ p. (p.numbers ≡ numbers) × (p.unit ≡ data_length numbers) × (first_out numbers ≡ None)) (λ w. first_out numbers ≡ Some w) }
     {
-        match first_wrong(numbers) {
-            Some(number) => Err(number),
-            None => Ok(Plan {
-                numbers,
-                unit: numbers.words * numbers.length,
-            }),
-        }
+        first_wrong(numbers)?;
+        Ok(Plan {
+            numbers,
+            unit: numbers.words * numbers.length,
+        })
     }
 
     // The plan of numbers that are known to be within their limits, in units that divide its data.

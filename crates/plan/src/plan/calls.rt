@@ -3,8 +3,7 @@ ghost use Rattle.std.specs.Prelude.{◌≡◌, not, take};
 ghost use Rattle.stack.specs.Stacks.{encoded_down};
 ghost use Rattle.plan.specs.Calls.{PutBlock, PlanPut, GetBlock, PlanGet, as_given};
 ghost use Rattle.plan.specs.Coders.{Footing};
-ghost use Rattle.limits.specs.Limits.{body_length};
-ghost use Rattle.limits.specs.Limits.{on_bare};
+ghost use Rattle.limits.specs.Limits.{body_length, on_bare};
 ghost use Rattle.plan.specs.Stacks.{plan_stages, plan_on, bare_plan, line_plan};
 
 use crate::plan::Plan;

@@ -1,7 +1,6 @@
 // The carrier of a plan.
 ghost use Rattle.std.specs.Prelude.{◌≡◌, true, false, MatchOption};
-ghost use Rattle.limits.specs.Limits.{coded_length, rate_of};
-ghost use Rattle.limits.specs.Limits.{on_bare};
+ghost use Rattle.limits.specs.Limits.{coded_length, rate_of, on_bare};
 
 use crate::plan::Plan;
 use limits::judge::rate_by_number;

@@ -1,19 +1,22 @@
-use Rattle.std.proofs.Common.{◌≡◌, ℕ, drop, sym, ap, ◌∙◌, arith}
-use Rattle.plan.specs.Listed.{table, among}
-use Rattle.plan.proofs.Table.{units_of, found, passed, none_behind}
+use Rattle.std.proofs.Common.{Some, None, ap, ◌∙◌, ◌%◌}
+use Rattle.limits.specs.Limits.{within, data_length}
+use Rattle.plan.specs.Listed.{table}
+use Rattle.plan.proofs.Table.{good_listed, listed_found}
 use Rattle.plan.proofs.listed.listed_plan.Goals as goal
 
+pub returns-in_err-numbers : goal.returns-in_err-numbers
+unfolding table
+returns-in_err-numbers c = rw c.from_residual.ensures (listed_found c.args.number None c.in_err-numbers.ensures)
+
 pub in_units-requires : goal.in_units-requires
-in_units-requires c = units_of c.loop-i.i c.row-n.result c.numbers_of.result c.loop-i-test.true c.row-n.ensures c.numbers_of.ensures
-
-pub returns-then-n-number : goal.returns-then-n-number
-returns-then-n-number c =
-    found c.loop-i.i c.args.number _ c.row-n.result c.numbers_of.result _ c.loop-i-test.true c.row-n.ensures c.numbers_of.ensures c.in_units.ensures.0 c.in_units.ensures.1 c.if-n-number.true c.loop-i.invariant
-
-pub loop-i-preserved : goal.loop-i-preserved
-loop-i-preserved c = passed c.loop-i.i c.args.number c.row-n.result c.loop-i-test.true c.row-n.ensures c.if-n-number.false c.loop-i.invariant
+unfolding table
+in_units-requires c =
+    let row = c.in_ok-numbers.field-0.now in
+    let good = good_listed c.args.number row c.in_ok-numbers.ensures in
+    (ap within c.into.ensures ∙ good.inside, (good.unit, ap (λ p. data_length p % row.2) c.into.ensures ∙ good.whole))
 
 pub returns : goal.returns
+unfolding table
 returns c =
-    let last : c.loop-i.i ≡ 69 = omega arith in
-    sym (c.loop-i.invariant ∙ ap (λ (i : ℕ). among (drop i table) c.args.number) last ∙ none_behind c.args.number)
+    (λ i. Some (record { numbers = (c.in_units.ensures.0 ∙ c.into.ensures) i; unit = c.in_units.ensures.1 i }))
+    ∙ listed_found c.args.number (Some c.in_ok-numbers.field-0.now) c.in_ok-numbers.ensures

@@ -1,5 +1,3 @@
-use Rattle.std.proofs.Common.{ap, ◌∙◌}
-use Rattle.galois.specs.Choice.{chosen_field}
 use Rattle.limits.proofs.Within.{sound}
 use Rattle.plan.proofs.plan.Plan.code.Goals as goal
 
@@ -15,8 +13,3 @@ unreachable-requires c =
       errors_high = s.errors_high;
       room = s.room;
     })
-
-pub returns : goal.returns
-returns c =
-    let made = c.in-Some.ensures in
-    record { field_is = ap chosen_field made.0 ∙ c.field.ensures; root_is = made.1; words_is = made.2; length_is = made.3; errors_is = made.4 }

@@ -2,7 +2,7 @@
 use Rattle.std.proofs.Common.{◌≡◌, [], ◌∷◌, ap, ◌∙◌}
 use Rattle.plan.specs.Coders.{check_meaning, randomiser_meaning, code_meaning, interleaver_meaning, stage_list}
 use Rattle.plan.specs.Stacks.{check_part, randomiser_part, code_part}
-use Rattle.plan.proofs.Coders.{code_there, coder_made, check_unfit, randomiser_unfit, code_unfit}
+use Rattle.plan.proofs.Coders.{code_there, coder_made, check_unfit}
 use Rattle.limits.proofs.Within.{sound}
 use Rattle.plan.proofs.plan.Plan.on.Goals as goal
 
@@ -24,22 +24,6 @@ returns-in-Ok-new-2 g c =
       same,
       coder_made g.C.Carrier.meaning g.C.Carrier.fits g.met.C.Carrier.rule p unit (sound p c.args.self.now.within) coder.stage coder.carrier.stage coder.carrier.carrier.stage
           coder.carrier.carrier.carrier.stage coder.carrier.carrier.carrier.carrier c.args.carrier same a b d (λ P. whole.2 (middle.2 (low.4 P))),
-    )
-
-pub returns-in-Err : goal.returns-in-Err
-returns-in-Err g c =
-    let refused = c.in-Err.ensures.made in
-    (refused.1, λ P. code_unfit c.args.self.now.numbers c.args.self.now.unit c.code.result (g.C.Carrier.meaning c.args.carrier) c.code.ensures (refused.2 P))
-
-pub returns-in-Err-new : goal.returns-in-Err-new
-returns-in-Err-new g c =
-    let p = c.args.self.now.numbers in
-    let low = c.in-Ok.ensures.made in
-    let refused = c.in-Err-new.ensures in (
-      cc,
-      randomiser_unfit g.C.Carrier.meaning g.C.Carrier.fits g.met.C.Carrier.rule p c.args.self.now.unit (sound p c.args.self.now.within) c.randomiser.result c.in-Ok.low.stage
-          c.in-Ok.low.carrier.stage c.in-Ok.low.carrier.carrier c.args.carrier low.3 c.randomiser.ensures
-          (code_there p c.code.result c.in-Ok.low.stage c.in-Ok.low.carrier.stage low.0 c.code.ensures low.1 low.2) _ (λ f. f.0.0) low.4 refused.2,
     )
 
 pub returns-in-Err-new-2 : goal.returns-in-Err-new-2

@@ -313,10 +313,9 @@ fn run_entry(
     }
 }
 
-// Runs every entry of an accepted book, one after another.
+// Runs every entry of an accepted book, one after another, and enters what became of each in its record.
 fn run_entries(
     file: &[u8],
-    count: usize,
     first: &mut [u8],
     second: &mut [u8],
     steps: &mut [u64],
@@ -325,20 +324,20 @@ fn run_entries(
     results: &mut [u8],
     records: &mut [Entry],
 )
-    requires right { (file_wrong file.now ≡ None) × (count ≡ entry_count file.now) }
-    requires room { (Enough (needs_before file.now (entry_count file.now)) (length first.old) (length second.old) (length steps.old) (length hard.old) (length soft.old)) × (((needs_before file.now (entry_count file.now)).results ≤ length results.old) × (count ≤ length records.old)) }
+    requires right { file_wrong file.now ≡ None }
+    requires room { (Enough (needs_before file.now (entry_count file.now)) (length first.old) (length second.old) (length steps.old) (length hard.old) (length soft.old)) × (((needs_before file.now (entry_count file.now)).results ≤ length results.old) × (length records.old ≡ entry_count file.now)) }
     requires idle { (Idle first.old second.old steps.old hard.old soft.old) × (results.old ≡ zeros (length results.old)) }
     ensures records { Recorded file.now (entry_count file.now) records.old records.new }
     ensures results { results.new ≡ padded (length results.old) (results_before file.now (entry_count file.now)) }
     ensures idle { Idle first.new second.new steps.new hard.new soft.new }
 {
-    let mut start = 2 + 6 * count;
+    let mut start = 2 + 6 * records.len();
     let mut place = 0;
-    for e in 0..count {
+    for (e, record) in records.iter_mut().enumerate() {
         let entry = run_entry(
             file, e, start, place, first, second, steps, hard, soft, results,
         );
-        records[e] = entry;
+        *record = entry;
         start += entry.line.length;
         place += entry.size;
     }
@@ -392,8 +391,7 @@ pub fn run_book(
         return Err(BookFault::Buffers);
     }
     clear_all(first, second, steps, hard, soft, results);
-    run_entries(
-        file, count, first, second, steps, hard, soft, results, records,
-    );
+    let entries = &mut records[0..count];
+    run_entries(file, first, second, steps, hard, soft, results, entries);
     Ok(count)
 }

@@ -69,37 +69,40 @@ fn hard_need(plan: &Plan) -> usize
     if plan.is_bare() { 0 } else { plan.air_length() }
 }
 
-// How long the buffers must be for a job.
-fn job_needs(kind: Kind, plan: &Plan) -> Needs
-    ensures value { result ≡ kind_needs kind plan.now.numbers }
-    ensures high { result.results ≤ 98304 }
-{
-    let bytes = plan.coded_length();
-    let steps = plan.step_need();
-    let air = plan.air_length();
-    let body = plan.body_length();
-    match kind {
-        Kind::Body => Needs {
-            bytes,
-            steps: 0,
-            hard: 0,
-            soft: 0,
-            results: air,
-        },
-        Kind::Block => Needs {
-            bytes,
-            steps,
-            hard: hard_need(plan),
-            soft: 0,
-            results: body,
-        },
-        Kind::Soft | Kind::Samples => Needs {
-            bytes,
-            steps,
-            hard: 0,
-            soft: air,
-            results: body,
-        },
+impl Job {
+    // How long the buffers must be for the job.
+    fn needs(&self) -> Needs
+        ensures value { result ≡ kind_needs self.now.kind self.now.plan.numbers }
+        ensures high { result.results ≤ 98304 }
+    {
+        let plan = &self.plan;
+        let bytes = plan.coded_length();
+        let steps = plan.step_need();
+        let air = plan.air_length();
+        let body = plan.body_length();
+        match self.kind {
+            Kind::Body => Needs {
+                bytes,
+                steps: 0,
+                hard: 0,
+                soft: 0,
+                results: air,
+            },
+            Kind::Block => Needs {
+                bytes,
+                steps,
+                hard: hard_need(plan),
+                soft: 0,
+                results: body,
+            },
+            Kind::Soft | Kind::Samples => Needs {
+                bytes,
+                steps,
+                hard: 0,
+                soft: air,
+                results: body,
+            },
+        }
     }
 }
 
@@ -141,7 +144,7 @@ fn judge_parts(file: &[u8], count: usize) -> Result<Needs, BookFault>
     let mut needs = Needs::default();
     for e in 0..count {
         let job = judge_entry(file, e, start)?;
-        needs = needs.and(job_needs(job.kind, &job.plan));
+        needs = needs.and(job.needs());
         start += job.length;
     }
     if start != file.len() {
@@ -164,7 +167,7 @@ pub fn judge_file(file: &[u8]) -> Result<(usize, Needs), BookFault>
     if file[0] != 6 {
         return Err(BookFault::Width);
     }
-    let count = file[1] as usize;
+    let count = usize::from(file[1]);
     if count < 1 || count > 32 {
         return Err(BookFault::Count);
     }

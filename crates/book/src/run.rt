@@ -2,14 +2,14 @@
 ghost use Rattle.std.specs.Prelude.{◌≡◌, ◌+◌, ◌*◌, ◌<◌, ◌≤◌, true, false, map, length, take, replicate, pos, None, MatchResult};
 ghost use Rattle.plan.specs.Calls.{plan_sent};
 ghost use Rattle.limits.specs.Limits.{body_length, coded_length};
-ghost use Rattle.limits.specs.Limits.{air_length, on_bare, step_count};
+ghost use Rattle.limits.specs.Limits.{air_length, on_bare};
 ghost use Rattle.plan.specs.Stacks.{bare_plan, line_plan};
 ghost use Rattle.stack.specs.Buffers.{zeros, padded};
 ghost use Rattle.readings.specs.Samples.{soft_of};
 ghost use Rattle.book.specs.Contents.{count as entry_count};
 ghost use Rattle.book.specs.Judging.{Enough, file_wrong, needs_before, result_length};
 ghost use Rattle.book.specs.Running.{Idle, Reached, Recorded, BookRun, TwoRefusals, outcome, results_before, record_at, read, read_marks, read_soft, first_over, mark_of, signed, samples};
-ghost use Rattle.book.specs.Handing.{FirstOver, Fit, Done, OnlyLate, Answered, part_after, first_after, ReadEntry};
+ghost use Rattle.book.specs.Handing.{FirstOver, LineBlock, RoomToRead, Fit, Done, OnlyLate, Answered, part_after, first_after, ReadEntry};
 
 use crate::contents::{Kind, read_line};
 use crate::entry::Entry;
@@ -65,7 +65,7 @@ fn hand_up(
     match given {
         Ok(counts) => {
             let n = part.len();
-            part.copy_from_slice(&first[0..n]);
+            part.copy_from_slice(&first[..n]);
             clear(first);
             Ok(counts)
         }
@@ -101,8 +101,8 @@ fn read_marks<R: Reading>(
     steps: &mut [u64],
     part: &mut [u8],
 ) -> Result<Corrections, EntryFault>
-    requires line { (on_bare plan.now.numbers ≡ false) × (length readings.now ≡ air_length plan.now.numbers) }
-    requires room { (coded_length plan.now.numbers ≤ length first.old) × ((length second.old ≡ length first.old) × (step_count plan.now.numbers ≤ length steps.old)) }
+    requires line { LineBlock plan.now.numbers (length readings.now) }
+    requires room { RoomToRead plan.now.numbers first.old second.old steps.old }
     requires part { part.old ≡ zeros (body_length plan.now.numbers) }
     ensures { ReadEntry (read (body_length plan.now.numbers) ((line_plan R.Reading.cost R.Reading.clean plan.now.numbers plan.now.unit).got readings.now)) first.old second.old steps.old result part.new first.new second.new steps.new }
 {
@@ -166,8 +166,8 @@ fn read_hard(
     marks: &mut [Option<bool>],
     part: &mut [u8],
 ) -> Result<Corrections, EntryFault>
-    requires line { (on_bare plan.now.numbers ≡ false) × (length bytes.now ≡ air_length plan.now.numbers) }
-    requires room { (coded_length plan.now.numbers ≤ length first.old) × ((length second.old ≡ length first.old) × (step_count plan.now.numbers ≤ length steps.old)) }
+    requires line { LineBlock plan.now.numbers (length bytes.now) }
+    requires room { RoomToRead plan.now.numbers first.old second.old steps.old }
     requires marks { length marks.old ≡ air_length plan.now.numbers }
     requires idle { (first.old ≡ zeros (length first.old)) × ((second.old ≡ zeros (length second.old)) × (steps.old ≡ zeros (length steps.old))) }
     requires part { part.old ≡ zeros (body_length plan.now.numbers) }
@@ -187,8 +187,8 @@ fn run_hard(
     hard: &mut [Option<bool>],
     part: &mut [u8],
 ) -> Result<Corrections, EntryFault>
-    requires line { (on_bare plan.now.numbers ≡ false) × (length bytes.now ≡ air_length plan.now.numbers) }
-    requires room { (coded_length plan.now.numbers ≤ length first.old) × ((length second.old ≡ length first.old) × (step_count plan.now.numbers ≤ length steps.old)) }
+    requires line { LineBlock plan.now.numbers (length bytes.now) }
+    requires room { RoomToRead plan.now.numbers first.old second.old steps.old }
     requires marks { air_length plan.now.numbers ≤ length hard.old }
     requires idle { (first.old ≡ zeros (length first.old)) × ((second.old ≡ zeros (length second.old)) × (steps.old ≡ zeros (length steps.old))) }
     requires part { part.old ≡ zeros (body_length plan.now.numbers) }
@@ -196,7 +196,7 @@ fn run_hard(
     ensures absent { hard.new ≡ replicate (length hard.old) None }
 {
     let n = bytes.len();
-    let answer = read_hard(plan, bytes, first, second, steps, &mut hard[0..n], part);
+    let answer = read_hard(plan, bytes, first, second, steps, &mut hard[..n], part);
     clear_hard(hard);
     answer
 }
@@ -211,14 +211,14 @@ fn run_soft(
     part: &mut [u8],
 ) -> Result<Corrections, EntryFault>
     requires line { on_bare plan.now.numbers ≡ false }
-    requires room { (coded_length plan.now.numbers ≤ length first.old) × ((length second.old ≡ length first.old) × (step_count plan.now.numbers ≤ length steps.old)) }
+    requires room { RoomToRead plan.now.numbers first.old second.old steps.old }
     requires readings { air_length plan.now.numbers ≤ length soft.old }
     requires part { part.old ≡ zeros (body_length plan.now.numbers) }
     ensures read { ReadEntry (read_soft plan.now.numbers plan.now.unit (take (air_length plan.now.numbers) soft.old)) first.old second.old steps.old result part.new first.new second.new steps.new }
     ensures zero { soft.new ≡ replicate (length soft.old) (pos 0) }
 {
     let n = plan.air_length();
-    let answer = read_marks(plan, &soft[0..n], first, second, steps, part);
+    let answer = read_marks(plan, &soft[..n], first, second, steps, part);
     clear_soft(soft);
     answer
 }
@@ -255,24 +255,26 @@ fn run_job(
             }
         }
         Kind::Soft => {
-            fill_soft(bytes, &mut soft[0..bytes.len()]);
+            fill_soft(bytes, &mut soft[..bytes.len()]);
             run_soft(plan, first, second, steps, soft, part)
         }
         Kind::Samples => {
-            fill_samples(bytes, &mut soft[0..bytes.len() / 2]);
+            fill_samples(bytes, &mut soft[..bytes.len() / 2]);
             run_soft(plan, first, second, steps, soft, part)
         }
     }
 }
 
-// How many bytes a job's result has.
-fn result_size(kind: Kind, plan: &Plan) -> usize
-    ensures value { result ≡ result_length kind plan.now.numbers }
-    ensures high { result ≤ 98304 }
-{
-    match kind {
-        Kind::Body => plan.air_length(),
-        Kind::Block | Kind::Soft | Kind::Samples => plan.body_length(),
+impl Job {
+    // How many bytes the job's result has.
+    fn result_size(&self) -> usize
+        ensures value { result ≡ result_length self.now.kind self.now.plan.numbers }
+        ensures high { result ≤ 98304 }
+    {
+        match self.kind {
+            Kind::Body => self.plan.air_length(),
+            Kind::Block | Kind::Soft | Kind::Samples => self.plan.body_length(),
+        }
     }
 }
 
@@ -301,7 +303,7 @@ fn run_entry(
     let Ok(job) = judge_entry(file, e, start) else {
         unreachable()
     };
-    let size = result_size(job.kind, &job.plan);
+    let size = job.result_size();
     let bytes = &file[start..start + job.length];
     let part = &mut results[place..place + size];
     let answer = run_job(&job, bytes, first, second, steps, hard, soft, part);
@@ -391,7 +393,7 @@ pub fn run_book(
         return Err(BookFault::Buffers);
     }
     clear_all(first, second, steps, hard, soft, results);
-    let entries = &mut records[0..count];
+    let entries = &mut records[..count];
     run_entries(file, first, second, steps, hard, soft, results, entries);
     Ok(count)
 }

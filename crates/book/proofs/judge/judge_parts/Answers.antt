@@ -31,14 +31,14 @@ loop-e-preserved c =
     = ap (λ (s : ℕ). entry_wrong (c.loop-e.e + 1) s (line_at f c.loop-e.e)) (sym c.loop-e.invariant.1) ∙ c.in_ok-job.ensures.0 in
     let add : c.and-needs.result ≡ needs_before f (c.loop-e.e + 1)
     = c.and-needs.ensures
-    ∙ ap (λ (n : Needs). and_needs n c.job_needs.result) c.loop-e.invariant.2
-    ∙ ap (λ (n : Needs). and_needs (needs_before f c.loop-e.e) n) (c.job_needs.ensures.value ∙ sym (job_needs (line_at f c.loop-e.e) c.in_ok-job.job job))
+    ∙ ap (λ (n : Needs). and_needs n c.needs.result) c.loop-e.invariant.2
+    ∙ ap (λ (n : Needs). and_needs (needs_before f c.loop-e.e) n) (c.needs.ensures.value ∙ sym (job_needs (line_at f c.loop-e.e) c.in_ok-job.job job))
     ∙ sym (needs_more f c.loop-e.e) in
-    let sum : c.and-needs.result.results ≡ c.loop-e.needs.results + c.job_needs.result.results
+    let sum : c.and-needs.result.results ≡ c.loop-e.needs.results + c.needs.result.results
     = ap (λ (n : Needs). n.results) c.and-needs.ensures in (
       entries_more f c.loop-e.e c.loop-e.invariant.0 ∙ right,
       ap (λ (s : ℕ). s + c.in_ok-job.job.length) c.loop-e.invariant.1 ∙ ap (λ (n : ℕ). start_at f c.loop-e.e + n) job.long ∙ sym (start_more f c.loop-e.e),
       add,
       omega (arith, job.short),
-      omega (arith, sum, c.job_needs.ensures.high),
+      omega (arith, sum, c.needs.ensures.high),
     )

@@ -1,5 +1,4 @@
-use Rattle.std.proofs.Common.{ℕ, ◌-◌, length, Err, sym, refl, ap, ◌∙◌, arith, rules}
-use Rattle.std.proofs.Math.Nat.{sub-zero}
+use Rattle.std.proofs.Common.{ℕ, length, Err, sym, refl, ap, ◌∙◌, arith, rules}
 use Rattle.std.proofs.lemmas.Result.{err_from_is_err_and}
 use Rattle.stack.specs.Buffers.{padded}
 use Rattle.book.specs.declared.fault.BookFault.{BookFault}
@@ -52,6 +51,6 @@ returns c =
       ran =
           book_run c.args.file.now c.args.records.now c.args.results.now c.args.first.now c.args.second.now c.args.steps.now c.args.hard.now c.args.soft.now _ _ _ _ _ _ _ _
           (right_book c.args.file.now _ _ _ _ _ _ _ c.in_ok-count.needs c.in_ok-count.count ok.2 ok.1 ok.0 (sym c.if-not-met.ensures))
-          ok.1 (front_recorded c.args.file.now (count c.args.file.now) (c.in_ok-count.count - 0) c.args.records.now _ (sub-zero c.in_ok-count.count ∙ ok.1) (omega (arith, ok.1, lent.2)) c.run_entries.ensures.records) (c.run_entries.ensures.results ∙ ap (λ (n : ℕ). padded n (results_before c.args.file.now (count c.args.file.now))) c.clear_all.auto.results) c.run_entries.ensures.idle;
+          ok.1 (front_recorded c.args.file.now (count c.args.file.now) c.in_ok-count.count c.args.records.now _ ok.1 (omega (arith, ok.1, lent.2)) c.run_entries.ensures.records) (c.run_entries.ensures.results ∙ ap (λ (n : ℕ). padded n (results_before c.args.file.now (count c.args.file.now))) c.clear_all.auto.results) c.run_entries.ensures.idle;
       late = only_two c.args.file.now;
     }

@@ -1,10 +1,10 @@
 // Runs a book from standard input to its last entry, and prints what became of each entry; or why the book is refused.
 #![tactic(auto)]
 
-ghost use Rattle.std.specs.Prelude.{◌≡◌, map, IfOk, string_bytes};
-ghost use Rattle.airbook.specs.Digits.{digit};
+ghost use Rattle.std.specs.Prelude.{◌≡◌, ◌↔◌, IsTrue, map, IfOk, string_bytes};
+ghost use Rattle.airbook.specs.Digits.{digit, IsLineBlock};
 
-use book::contents::{EntryLine, Kind, kind_by_number};
+use book::contents::{EntryLine, Kind};
 use book::entry::Entry;
 use book::run::run_book;
 use plan::listed::listed_plan;
@@ -13,7 +13,7 @@ use std::io::Read;
 use std::process::ExitCode;
 
 // A book of this size is too long, so no more is read.
-const ENOUGH: usize = 60_001;
+const ENOUGH: u64 = 60_001;
 
 // The bytes of the result buffer.
 const RESULTS: usize = 65_536;
@@ -27,27 +27,17 @@ const READINGS: usize = 98_304;
 
 // The book on standard input, at most one byte more than a book may have.
 fn read_input(rt: &HostRuntime) -> anyhow::Result<Vec<u8>> {
-    let mut bytes = vec![in rt.alloc(); 0u8; ENOUGH]?;
-    let mut input = rt.stdin();
-    let mut count = 0;
-    for _ in 0..ENOUGH {
-        if count >= bytes.len() {
-            break;
-        }
-        let got = input.read(&mut bytes[count..])?;
-        if got == 0 {
-            break;
-        }
-        count += got;
-    }
-    bytes.truncate(count);
+    let mut bytes = Vec::new(rt.alloc());
+    rt.stdin().take(ENOUGH).read_to_end(&mut bytes)?;
     Ok(bytes)
 }
 
 // Whether an entry's result is a block on the line, which is printed as digits.
-fn is_marks(line: &EntryLine) -> bool {
-    match (kind_by_number(line.kind), listed_plan(line.plan)) {
-        (Some(Kind::Body), Some(plan)) => !plan.is_bare(),
+fn is_marks(line: &EntryLine) -> bool
+    ensures { IsTrue result ↔ IsLineBlock line.now }
+{
+    match (Kind::try_from(line.kind), listed_plan(line.plan)) {
+        (Ok(Kind::Body), Some(plan)) => !plan.is_bare(),
         _ => false,
     }
 }
@@ -70,14 +60,17 @@ fn print_entry(
     entry: &Entry,
     results: &[u8],
 ) -> anyhow::Result<()> {
-    if let Some(fault) = entry.refusal {
-        let report = fault.report();
-        let refusal = report.number;
-        let depth = report.depth;
-        let place = report.place;
-        println!(rt; "{number} refused {refusal} {depth} {place}")?;
-        return Ok(());
-    }
+    let counts = match entry.answer {
+        Ok(counts) => counts,
+        Err(fault) => {
+            let report = fault.report();
+            println!(rt;
+                "{} refused {} {} {}",
+                number, report.number, report.depth, report.place
+            )?;
+            return Ok(());
+        }
+    };
     let end = entry.place.saturating_add(entry.size);
     let part = results.get(entry.place..end).unwrap_or(results);
     let text = if is_marks(&entry.line) {
@@ -85,28 +78,23 @@ fn print_entry(
     } else {
         hex_text::show(rt.alloc(), part)?
     };
-    let symbols = entry.counts.symbols;
-    let bytes = entry.counts.bytes;
-    println!(rt; "{number} ok {symbols} {bytes} {text}")?;
+    println!(rt;
+        "{} ok {} {} {}",
+        number, counts.symbols, counts.bytes, text
+    )?;
     Ok(())
 }
 
 // A record that nothing was entered in.
 fn blank() -> Entry {
     Entry {
-        line: EntryLine {
-            plan: 0,
-            kind: 0,
-            start: 0,
-            length: 0,
-        },
+        line: EntryLine::default(),
         place: 0,
         size: 0,
-        refusal: None,
-        counts: Corrections {
+        answer: Ok(Corrections {
             symbols: 0,
             bytes: 0,
-        },
+        }),
     }
 }
 
@@ -137,10 +125,7 @@ fn run(rt: &HostRuntime) -> anyhow::Result<()> {
             }
         }
         Err(fault) => {
-            let report = fault.report();
-            let number = report.number;
-            let entry = report.entry;
-            println!(rt; "book refused {number} {entry}")?;
+            println!(rt; "book refused {}", fault.report())?;
         }
     }
     Ok(())

@@ -11,12 +11,11 @@ use Rattle.book.specs.declared.contents.EntryLine.{EntryLine}
 use Rattle.book.specs.declared.contents.Kind.{Kind}
 use Rattle.book.specs.declared.contents.Kind.TheVariants.{Body, Block, Soft, Samples}
 use Rattle.limits.specs.declared.numbers.PlanNumbers.{PlanNumbers}
-use Rattle.book.specs.declared.entry.Entry.{Entry}
 use Rattle.book.specs.declared.fault.EntryFault.{EntryFault}
 use Rattle.book.specs.declared.job.Job.{Job}
 use Rattle.book.specs.declared.job.Needs.{Needs}
 use Rattle.book.specs.Jobs.{JobOf}
-use Rattle.book.specs.Running.{Reached, entry_bytes, entry_outcome, outcome, outcome_by, record_at, refusal_of, counts_of, results_before}
+use Rattle.book.specs.Running.{Reached, entry_bytes, entry_outcome, outcome, outcome_by, record_at, results_before}
 use Rattle.book.specs.Judging.{Enough, kind_needs, result_length, entry_needs, entry_wrong, file_wrong, needs_before, start_at}
 use Rattle.book.proofs.Covering.{passed, each_right}
 use Rattle.book.proofs.Judged.{start_more, needs_more, job_needs}
@@ -102,17 +101,10 @@ module _ (n place size : ℕ) (xs r : List ℕ) (held : r ≡ padded n xs) (long
       (λ i. front i ++ (ys ++ rest i)) ∙ sym (append_assoc xs ys (zeros (n - length (xs ++ ys))))
 
 -- the record of an entry
-pub recorded : (f : List ℕ) (e place size : ℕ) (r : Entry) (answer : Result Corrections EntryFault) → r.line ≡ line_at f e → r.place ≡ place → r.size ≡ size → r.refusal ≡ refusal_of answer → r.counts ≡ counts_of answer
-    → place ≡ (needs_before f e).results → length (entry_outcome f e).result ≡ size → answer ≡ (entry_outcome f e).answer → r ≡ record_at f e
+pub recorded : (f : List ℕ) (e place size : ℕ) (line : EntryLine) (answer : Result Corrections EntryFault) → line ≡ line_at f e
+    → place ≡ (needs_before f e).results → length (entry_outcome f e).result ≡ size → answer ≡ (entry_outcome f e).answer → record { line = line; place = place; size = size; answer = answer } ≡ record_at f e
 unfolding record_at
-recorded f e place size r answer line at long refused counted here big is =
-    λ i. record {
-      line = line i;
-      place = (at ∙ here) i;
-      size = (long ∙ sym big) i;
-      refusal = (refused ∙ ap refusal_of is) i;
-      counts = (counted ∙ ap counts_of is) i;
-    }
+recorded f e place size line answer same here big is = λ i. record { line = same i; place = here i; size = sym big i; answer = is i }
 
 -- one entry more is run
 pub reached_more : (f : List ℕ) (e start place size : ℕ) (r r' ys : List ℕ) (line : EntryLine) → Reached f e start place r → line ≡ line_at f e → (entry_needs (line_at f e)).results ≡ size → ys ≡ (entry_outcome f e).result → length ys ≡ size

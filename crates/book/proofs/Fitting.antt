@@ -1,5 +1,5 @@
 -- Calls by a plan whose buffers are long enough.
-use Rattle.std.proofs.Common.{◌≡◌, ℕ, ◌+◌, ◌-◌, ◌*◌, ◌≤◌, Bool, true, false, cond, ◌&&◌, eqb, leb, List, ◌++◌, map, length, take, IfOk, Some, None, Ok, Err, Option, Result, sym, refl, ap, ◌∙◌, subst, arith, eq-eqb}
+use Rattle.std.proofs.Common.{◌≡◌, ℕ, ◌+◌, ◌-◌, ◌*◌, ◌≤◌, Bool, true, false, cond, ◌&&◌, eqb, leb, List, ◌++◌, map, length, take, IfOk, None, Ok, Err, Option, Result, sym, refl, ap, ◌∙◌, subst, arith, eq-eqb}
 use Rattle.std.proofs.lemmas.List.{length-replicate}
 use Rattle.std.proofs.Math.Seq.{take-append_seam}
 use Rattle.std.proofs.Math.Nat.{sub-zero}
@@ -21,9 +21,9 @@ use Rattle.stack.specs.Meaning.{Received}
 use Rattle.stack.specs.declared.fault.Misfit.TheVariants.{Buffers, AirLength}
 use Rattle.stack.specs.Bodies.{length-padded, take-padded}
 use Rattle.book.specs.declared.fault.EntryFault.{EntryFault}
-use Rattle.book.specs.Handing.{OnlyLate, Answered, part_after, first_after, ReadEntry}
-use Rattle.book.specs.declared.fault.EntryFault.TheVariants.{Mark}
-use Rattle.book.specs.Running.{read, read_marks, mark_of}
+use Rattle.book.specs.Handing.{FirstOver, OnlyLate, Answered, part_after, first_after, ReadEntry}
+use Rattle.book.specs.declared.fault.EntryFault.TheVariants.{Mark, Coding}
+use Rattle.book.specs.Running.{read, read_marks, mark_of, first_over}
 use Rattle.readings.specs.Readings.{hard_cost, clean_hard}
 
 -- nothing is refused early
@@ -123,8 +123,9 @@ pub marks-read : (p : PlanNumbers) (unit : ℕ) (bs a b t : List ℕ) (o : Optio
     → ReadEntry (read (body_length p) ((line_plan hard_cost clean_hard p unit).got (map mark_of bs))) a b t r m' a' b' t' → ReadEntry (read_marks p unit bs o) a b t r m' a' b' t'
 marks-read p unit bs a b t o r m' a' b' t' e k = subst (λ x. ReadEntry (read_marks p unit bs x) a b t r m' a' b' t') (sym e) k
 
-pub marks-refused : (p : PlanNumbers) (unit : ℕ) (bs a b t : List ℕ) (o : Option ℕ) (i : ℕ) (m : List ℕ) → o ≡ Some i → m ≡ zeros (body_length p) → a ≡ zeros (length a) → b ≡ zeros (length b) → t ≡ zeros (length t)
-    → ReadEntry (read_marks p unit bs o) a b t (Err (Mark i)) m a b t
-marks-refused p unit bs a b t o i m e part first second steps =
+pub marks-refused : (p : PlanNumbers) (unit : ℕ) (bs a b t : List ℕ) (w : EntryFault) (m : List ℕ) → FirstOver bs w → m ≡ zeros (body_length p) → a ≡ zeros (length a) → b ≡ zeros (length b) → t ≡ zeros (length t)
+    → ReadEntry (read_marks p unit bs (first_over 0 bs)) a b t (Err w) m a b t
+marks-refused p unit bs a b t (Mark i) m e part first second steps =
     subst (λ x. ReadEntry (read_marks p unit bs x) a b t (Err (Mark i)) m a b t) (sym e)
     (record { answer = refl; part = part; first = first; second = second; steps = steps })
+marks-refused p unit bs a b t (Coding f) m e part first second steps = absurd e

@@ -2,7 +2,6 @@ mod Judged
 mod Covering
 mod Fitting
 mod Filling
-mod Doing
 mod Entries
 mod Recording
 mod Lending

@@ -1,7 +1,8 @@
 -- The records, and what is reached, before the first entry and after each.
-use Rattle.std.proofs.Common.{◌≡◌, ℕ, ◌+◌, ◌*◌, ◌<◌, ◌≤◌, ◌≢◌, ◌⊎◌, List, length, get_or, set, sym, refl, ap, ◌∙◌, inl, inr, arith, length-set, get_or-set_other, get_or-set_same}
+use Rattle.std.proofs.Common.{◌≡◌, ℕ, ◌+◌, ◌-◌, ◌*◌, ◌<◌, ◌≤◌, ◌≢◌, ◌⊎◌, List, ◌++◌, length, get_or, take, drop, set, sym, refl, ap, ◌∙◌, inl, inr, arith, length-append, length-set, get_or-set_other, get_or-set_same}
 use Rattle.std.proofs.Math.Nat.{sub-zero}
 use Rattle.std.proofs.lemmas.Bool.{cases_lt}
+use Rattle.std.proofs.lemmas.List.{length-drop, length-take-le, get_or-drop, get_or_append_left, get_or-append_right}
 use Rattle.stack.specs.Buffers.{zeros}
 use Rattle.book.specs.declared.entry.Entry.{Entry}
 use Rattle.book.specs.Contents.{count}
@@ -34,3 +35,13 @@ one_recorded f e before rs r h is k = record {
     at i d lt (inr same) =
         let is-e : i ≡ e = omega arith in
         ap (λ (j : ℕ). get_or (set rs e r) j d) is-e ∙ get_or-set_same rs e r d h ∙ is ∙ ap (record_at f) (sym is-e)
+
+-- the records of all entries, at the front of a list that may be longer
+pub front_recorded : (f : List ℕ) (n k : ℕ) (before front : List Entry) → k ≡ n → n ≤ length before → Recorded f n (take k before) front → Recorded f n before (front ++ drop k before)
+front_recorded f n k before front is h r =
+    let long : length front ≡ k = r.long ∙ length-take-le k before (omega arith) in
+    record {
+      long = length-append front (drop k before) ∙ (let all : length front + length (drop k before) ≡ length before = omega (arith, long, length-drop k before) in all);
+      done = λ e d lt. get_or_append_left front (drop k before) d e (omega arith) ∙ r.done e d lt;
+      kept = λ e d ge. get_or-append_right front (drop k before) k e d long (omega arith) ∙ get_or-drop k before (e - k) d ∙ ap (λ (j : ℕ). get_or before j d) (let at : k + (e - k) ≡ e = omega arith in at);
+    }

@@ -1,8 +1,9 @@
 -- The contents of a book: the entry width, the number of entries, and a line of six bytes for each.
-use Rattle.std.specs.Prelude.{ℕ, ◌+◌, ◌*◌, cond, List, Some, None, Option, ◌==◌, slice_index}
+use Rattle.std.specs.Prelude.{◌≡◌, ℕ, ◌+◌, ◌*◌, cond, List, Some, None, Option, Result, MatchResult, ◌==◌, slice_index}
 use Rattle.book.specs.declared.contents.Kind.{Kind}
 use Rattle.book.specs.declared.contents.Kind.TheVariants.{Body, Block, Soft, Samples}
 use Rattle.book.specs.declared.contents.EntryLine.{EntryLine}
+use Rattle.book.specs.declared.contents.UnknownKind.{UnknownKind}
 
 -- byte 0: how wide the entries of the contents are
 abbrev pub width : List ℕ → ℕ
@@ -28,3 +29,7 @@ line_at f e = record {
 -- the kinds by number
 abbrev pub kind_of : ℕ → Option Kind
 kind_of n = cond (n == 0) (Some Body) (cond (n == 1) (Some Block) (cond (n == 2) (Some Soft) (cond (n == 3) (Some Samples) None)))
+
+-- the kind with a number, or the number that no kind has
+abbrev pub KindOf : ℕ → Result Kind UnknownKind → Type 0
+KindOf n r = MatchResult r (λ k. kind_of n ≡ Some k) (λ e. (e.0 ≡ n) × (kind_of n ≡ None))

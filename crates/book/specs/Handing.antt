@@ -1,16 +1,17 @@
 -- What a read by a plan hands up to its entry.
-use Rattle.std.specs.Prelude.{◌≡◌, ℕ, Bool, true, List, length, take, ℤ, Ok, Err, Option, Result}
+use Rattle.std.specs.Prelude.{◌≡◌, ℕ, ◌≤◌, Bool, true, false, List, length, take, ℤ, Ok, Err, Some, Option, Result}
 use Rattle.plan.specs.declared.refusal.PlanRefusal.{PlanRefusal}
 use Rattle.plan.specs.declared.refusal.PlanRefusal.TheVariants.{OtherCarrier, Stack}
 use Rattle.stack.specs.declared.corrections.Corrections.{Corrections}
 use Rattle.stack.specs.declared.fault.Refusal.TheVariants.{Early, Late}
 use Rattle.stack.specs.Buffers.{zeros}
 use Rattle.book.specs.declared.fault.EntryFault.{EntryFault}
-use Rattle.book.specs.declared.fault.EntryFault.TheVariants.{Coding}
+use Rattle.book.specs.declared.fault.EntryFault.TheVariants.{Mark, Coding}
 use Rattle.book.specs.declared.contents.Kind.{Kind}
+use Rattle.limits.specs.Limits.{on_bare, air_length, coded_length, step_count}
 use Rattle.limits.specs.declared.numbers.PlanNumbers.{PlanNumbers}
 use Rattle.book.specs.Judging.{Enough, allowed, asked, kind_needs, result_length}
-use Rattle.book.specs.Running.{Idle, Outcome}
+use Rattle.book.specs.Running.{Idle, Outcome, first_over}
 
 -- a body, or a refusal for what the readings say
 abbrev pub OnlyLate : Result Corrections PlanRefusal → Type 0
@@ -35,6 +36,19 @@ part_after (Err w) first part = part
 abbrev pub first_after : Result Corrections PlanRefusal → List ℕ → List ℕ
 first_after (Ok n) first = zeros (length first)
 first_after (Err w) first = first
+
+-- so many readings are a block of a plan on the line
+abbrev pub LineBlock : PlanNumbers → ℕ → Type 0
+LineBlock p n = (on_bare p ≡ false) × (n ≡ air_length p)
+
+-- two byte buffers and a step buffer are long enough for a read by a plan
+abbrev pub RoomToRead : PlanNumbers → List ℕ → List ℕ → List ℕ → Type 0
+RoomToRead p first second steps = (coded_length p ≤ length first) × ((length second ≡ length first) × (step_count p ≤ length steps))
+
+-- refused for the first byte that is no mark
+abbrev pub FirstOver : List ℕ → EntryFault → Type 0
+FirstOver bs (Mark i) = first_over 0 bs ≡ Some i
+FirstOver bs (Coding f) = ⊥
 
 -- an entry that was read: its answer, its part of the results, and the buffers behind it
 pub record ReadEntry (o : Outcome) (a b t : List ℕ) (r : Result Corrections EntryFault) (m' a' b' t' : List ℕ) : Type 0 where

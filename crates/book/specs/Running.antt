@@ -95,7 +95,7 @@ entry_bytes f l = take l.length (drop l.start f)
 unfoldable pub entry_outcome : List ℕ → ℕ → Outcome
 entry_outcome f e = outcome_by (listed (line_at f e).plan) (kind_of (line_at f e).kind) (entry_bytes f (line_at f e))
 
--- the refusal that a record holds, and its counts
+-- the refusal that an answer holds, and its counts
 abbrev pub refusal_of : Result Corrections EntryFault → Option EntryFault
 refusal_of (Ok n) = None
 refusal_of (Err w) = Some w
@@ -104,14 +104,13 @@ abbrev pub counts_of : Result Corrections EntryFault → Corrections
 counts_of (Ok n) = n
 counts_of (Err w) = none_corrected
 
--- the record of entry e: its line of the contents, the place and size of its result behind those before it, its refusal and its counts
+-- the record of entry e: its line of the contents, the place and size of its result behind those before it, and what was corrected or why it is refused
 unfoldable pub record_at : List ℕ → ℕ → Entry
 record_at f e = record {
   line = line_at f e;
   place = (needs_before f e).results;
   size = length (entry_outcome f e).result;
-  refusal = refusal_of (entry_outcome f e).answer;
-  counts = counts_of (entry_outcome f e).answer;
+  answer = (entry_outcome f e).answer;
 }
 
 -- the results of the first n entries, one behind another

@@ -1,9 +1,9 @@
 // The contents of a book: a line of six bytes for each entry.
 ghost use Rattle.std.specs.Prelude.{◌≡◌, ◌+◌, ◌*◌, ◌<◌, ◌≤◌, length};
-ghost use Rattle.book.specs.Contents.{line_at, kind_of};
+ghost use Rattle.book.specs.Contents.{line_at, KindOf};
 
 // What an entry holds.
-#[derive(Clone, Copy)]
+#[derive(Clone, Copy, Debug, PartialEq, Eq)]
 pub enum Kind {
     // A body to write.
     Body,
@@ -15,8 +15,29 @@ pub enum Kind {
     Samples,
 }
 
+// A number that no kind has.
+#[derive(Clone, Copy, Debug, PartialEq, Eq)]
+pub struct UnknownKind(pub u8);
+
+// The kind with this number.
+impl TryFrom<u8> for Kind {
+    type Error = UnknownKind;
+
+    ghost try_from_gives = { KindOf };
+
+    fn try_from(number: u8) -> Result<Self, UnknownKind> {
+        match number {
+            0 => Ok(Kind::Body),
+            1 => Ok(Kind::Block),
+            2 => Ok(Kind::Soft),
+            3 => Ok(Kind::Samples),
+            _ => Err(UnknownKind(number)),
+        }
+    }
+}
+
 // An entry as the contents say it; nothing is known of it until it is judged.
-#[derive(Clone, Copy)]
+#[derive(Clone, Copy, Debug, Default, PartialEq, Eq)]
 pub struct EntryLine {
     // The number of the plan.
     pub plan: u8,
@@ -33,7 +54,7 @@ fn word(high: u8, low: u8) -> usize
     ensures value { result ≡ 256 * high + low }
     ensures short { result < 65536 }
 {
-    256 * high as usize + low as usize
+    usize::from(u16::from_be_bytes([high, low]))
 }
 
 // Line e, from 0, of the contents.
@@ -48,18 +69,5 @@ pub fn read_line(file: &[u8], e: usize) -> EntryLine
         kind: file[at + 1],
         start: word(file[at + 2], file[at + 3]),
         length: word(file[at + 4], file[at + 5]),
-    }
-}
-
-// The kind with this number.
-pub fn kind_by_number(number: u8) -> Option<Kind>
-    ensures { result ≡ kind_of number }
-{
-    match number {
-        0 => Some(Kind::Body),
-        1 => Some(Kind::Block),
-        2 => Some(Kind::Soft),
-        3 => Some(Kind::Samples),
-        _ => None,
     }
 }

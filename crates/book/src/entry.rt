@@ -11,8 +11,6 @@ pub struct Entry {
     pub place: usize,
     // How many bytes its result has; they are zero where it is refused.
     pub size: usize,
-    // Why it is refused, if it is.
-    pub refusal: Option<EntryFault>,
-    // What was corrected; nothing for a write or a refusal.
-    pub counts: Corrections,
+    // What was corrected, nothing for a write; or why it is refused.
+    pub answer: Result<Corrections, EntryFault>,
 }

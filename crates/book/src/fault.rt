@@ -3,9 +3,10 @@ ghost use Rattle.std.specs.Prelude.{◌≡◌};
 ghost use Rattle.book.specs.Faults.{book_report, entry_report};
 
 use stack::fault::{CarrierFault, Report};
+use std::fmt;
 
 // Why a whole book is refused; entries are numbered from 1.
-#[derive(Clone, Copy)]
+#[derive(Clone, Copy, Debug, PartialEq, Eq)]
 pub enum BookFault {
     // The file is shorter than 2 bytes, longer than 60,000, or shorter than its contents.
     Size,
@@ -35,10 +36,16 @@ pub enum EntryFault {
 }
 
 // A refused book in numbers, as it is printed: the entry is 0 where none is meant.
-#[derive(Clone, Copy)]
+#[derive(Clone, Copy, Debug, PartialEq, Eq)]
 pub struct BookReport {
     pub number: u32,
     pub entry: u32,
+}
+
+impl fmt::Display for BookReport {
+    fn fmt<W: fmt::Write>(&self, f: &mut fmt::Formatter<W>) -> fmt::Result {
+        write!(f, "{} {}", self.number, self.entry)
+    }
 }
 
 impl BookFault {

@@ -1,4 +1,4 @@
-// A judged entry: its plan, what it holds, and where.
+// A judged entry: its plan, what it holds, and where; and what the lent buffers must be for it.
 use crate::contents::Kind;
 use plan::plan::Plan;
 
@@ -14,7 +14,7 @@ pub struct Job {
 }
 
 // How long the lent buffers must be at least.
-#[derive(Clone, Copy)]
+#[derive(Clone, Copy, Debug, Default, PartialEq, Eq)]
 pub struct Needs {
     // Each of the two byte buffers.
     pub bytes: usize,
@@ -26,4 +26,22 @@ pub struct Needs {
     pub soft: usize,
     // The result buffer.
     pub results: usize,
+}
+
+// How long what was lent is.
+#[derive(Clone, Copy, Debug, PartialEq, Eq)]
+pub struct Lent {
+    // The two byte buffers.
+    pub first: usize,
+    pub second: usize,
+    // The step buffer.
+    pub steps: usize,
+    // The list of hard readings.
+    pub hard: usize,
+    // The list of soft readings.
+    pub soft: usize,
+    // The result buffer.
+    pub results: usize,
+    // The list of records.
+    pub records: usize,
 }

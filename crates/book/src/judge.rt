@@ -5,9 +5,9 @@ ghost use Rattle.book.specs.Contents.{line_at, count as entry_count, contents_en
 ghost use Rattle.book.specs.Jobs.{JobOf};
 ghost use Rattle.book.specs.Judging.{allowed, asked, lent_enough, kind_needs, and_needs, needs_before, entry_wrong, parts_wrong, file_wrong, Covered, OtherWidth};
 
-use crate::contents::{Kind, kind_by_number, read_line};
+use crate::contents::{Kind, read_line};
 use crate::fault::BookFault;
-use crate::job::{Job, Needs};
+use crate::job::{Job, Lent, Needs};
 use plan::listed::listed_plan;
 use plan::plan::Plan;
 
@@ -45,7 +45,7 @@ pub fn judge_entry(file: &[u8], e: usize, start: usize) -> Result<Job, BookFault
     let Some(plan) = listed_plan(line.plan) else {
         return Err(BookFault::Unlisted { entry });
     };
-    let Some(kind) = kind_by_number(line.kind) else {
+    let Ok(kind) = Kind::try_from(line.kind) else {
         return Err(BookFault::Kind { entry });
     };
     if !is_allowed(kind, &plan) {
@@ -69,76 +69,69 @@ fn hard_need(plan: &Plan) -> usize
     if plan.is_bare() { 0 } else { plan.air_length() }
 }
 
-// How long the buffers must be for a job.
-fn job_needs(kind: Kind, plan: &Plan) -> Needs
-    ensures value { result ≡ kind_needs kind plan.now.numbers }
-    ensures high { result.results ≤ 98304 }
-{
-    let bytes = plan.coded_length();
-    let steps = plan.step_need();
-    let air = plan.air_length();
-    let body = plan.body_length();
-    match kind {
-        Kind::Body => Needs {
-            bytes,
-            steps: 0,
-            hard: 0,
-            soft: 0,
-            results: air,
-        },
-        Kind::Block => Needs {
-            bytes,
-            steps,
-            hard: hard_need(plan),
-            soft: 0,
-            results: body,
-        },
-        Kind::Soft | Kind::Samples => Needs {
-            bytes,
-            steps,
-            hard: 0,
-            soft: air,
-            results: body,
-        },
-    }
-}
-
-// How long the buffers must be for one job after another.
-fn both_needs(a: Needs, b: Needs) -> Needs
-    requires { (a.results ≤ 4194304) × (b.results ≤ 98304) }
-    ensures { result ≡ and_needs a b }
-{
-    Needs {
-        bytes: a.bytes.max(b.bytes),
-        steps: a.steps.max(b.steps),
-        hard: a.hard.max(b.hard),
-        soft: a.soft.max(b.soft),
-        results: a.results + b.results,
+impl Job {
+    // How long the buffers must be for the job.
+    fn needs(&self) -> Needs
+        ensures value { result ≡ kind_needs self.now.kind self.now.plan.numbers }
+        ensures high { result.results ≤ 98304 }
+    {
+        let plan = &self.plan;
+        let bytes = plan.coded_length();
+        let steps = plan.step_need();
+        let air = plan.air_length();
+        let body = plan.body_length();
+        match self.kind {
+            Kind::Body => Needs {
+                bytes,
+                steps: 0,
+                hard: 0,
+                soft: 0,
+                results: air,
+            },
+            Kind::Block => Needs {
+                bytes,
+                steps,
+                hard: hard_need(plan),
+                soft: 0,
+                results: body,
+            },
+            Kind::Soft | Kind::Samples => Needs {
+                bytes,
+                steps,
+                hard: 0,
+                soft: air,
+                results: body,
+            },
+        }
     }
 }
 
 impl Needs {
-    // Whether lent buffers of these lengths are long enough, and the list of records has room for every entry.
-    pub fn met(
-        &self,
-        entries: usize,
-        first: usize,
-        second: usize,
-        steps: usize,
-        hard: usize,
-        soft: usize,
-        results: usize,
-        records: usize,
-    ) -> bool
-        ensures { result ≡ lent_enough self.now entries first second steps hard soft results records }
+    // How long the buffers must be for one job after another.
+    fn and(self, other: Needs) -> Needs
+        requires { (self.results ≤ 4194304) × (other.results ≤ 98304) }
+        ensures { result ≡ and_needs self other }
     {
-        first == second
-            && self.bytes <= first
-            && self.steps <= steps
-            && self.hard <= hard
-            && self.soft <= soft
-            && self.results <= results
-            && entries <= records
+        Needs {
+            bytes: self.bytes.max(other.bytes),
+            steps: self.steps.max(other.steps),
+            hard: self.hard.max(other.hard),
+            soft: self.soft.max(other.soft),
+            results: self.results + other.results,
+        }
+    }
+
+    // Whether what was lent is long enough, and the list of records has room for every entry.
+    pub fn met(&self, entries: usize, lent: &Lent) -> bool
+        ensures { result ≡ lent_enough self.now entries lent.now.first lent.now.second lent.now.steps lent.now.hard lent.now.soft lent.now.results lent.now.records }
+    {
+        lent.first == lent.second
+            && self.bytes <= lent.first
+            && self.steps <= lent.steps
+            && self.hard <= lent.hard
+            && self.soft <= lent.soft
+            && self.results <= lent.results
+            && entries <= lent.records
     }
 }
 
@@ -148,16 +141,10 @@ fn judge_parts(file: &[u8], count: usize) -> Result<Needs, BookFault>
     ensures { MatchResult result (λ n. (parts_wrong file.now ≡ None) × (n ≡ needs_before file.now count)) (λ w. parts_wrong file.now ≡ Some w) }
 {
     let mut start = 2 + 6 * count;
-    let mut needs = Needs {
-        bytes: 0,
-        steps: 0,
-        hard: 0,
-        soft: 0,
-        results: 0,
-    };
+    let mut needs = Needs::default();
     for e in 0..count {
         let job = judge_entry(file, e, start)?;
-        needs = both_needs(needs, job_needs(job.kind, &job.plan));
+        needs = needs.and(job.needs());
         start += job.length;
     }
     if start != file.len() {
@@ -180,7 +167,7 @@ pub fn judge_file(file: &[u8]) -> Result<(usize, Needs), BookFault>
     if file[0] != 6 {
         return Err(BookFault::Width);
     }
-    let count = file[1] as usize;
+    let count = usize::from(file[1]);
     if count < 1 || count > 32 {
         return Err(BookFault::Count);
     }

@@ -1,20 +1,20 @@
 // Running the entries of a book.
-ghost use Rattle.std.specs.Prelude.{◌≡◌, ◌+◌, ◌*◌, ◌<◌, ◌≤◌, true, false, map, length, replicate, pos, IfSome, None};
+ghost use Rattle.std.specs.Prelude.{◌≡◌, ◌+◌, ◌*◌, ◌<◌, ◌≤◌, true, false, map, length, take, replicate, pos, None, MatchResult};
 ghost use Rattle.plan.specs.Calls.{plan_sent};
 ghost use Rattle.limits.specs.Limits.{body_length, coded_length};
-ghost use Rattle.limits.specs.Limits.{air_length, on_bare, step_count};
+ghost use Rattle.limits.specs.Limits.{air_length, on_bare};
 ghost use Rattle.plan.specs.Stacks.{bare_plan, line_plan};
 ghost use Rattle.stack.specs.Buffers.{zeros, padded};
 ghost use Rattle.readings.specs.Samples.{soft_of};
 ghost use Rattle.book.specs.Contents.{count as entry_count};
 ghost use Rattle.book.specs.Judging.{Enough, file_wrong, needs_before, result_length};
-ghost use Rattle.book.specs.Running.{Idle, Reached, Recorded, BookRun, TwoRefusals, outcome, results_before, record_at, refusal_of, counts_of, read, read_marks, read_soft, first_over, mark_of, signed, samples};
-ghost use Rattle.book.specs.Handing.{Fit, Done, OnlyLate, Answered, part_after, first_after, ReadEntry};
+ghost use Rattle.book.specs.Running.{Idle, Reached, Recorded, BookRun, TwoRefusals, outcome, results_before, record_at, read, read_marks, read_soft, first_over, mark_of, signed, samples};
+ghost use Rattle.book.specs.Handing.{FirstOver, LineBlock, RoomToRead, Fit, Done, OnlyLate, Answered, part_after, first_after, ReadEntry};
 
-use crate::contents::{EntryLine, Kind, read_line};
+use crate::contents::{Kind, read_line};
 use crate::entry::Entry;
 use crate::fault::{BookFault, EntryFault};
-use crate::job::Job;
+use crate::job::{Job, Lent};
 use crate::judge::{judge_entry, judge_file};
 use plan::plan::Plan;
 use plan::refusal::PlanRefusal;
@@ -65,7 +65,7 @@ fn hand_up(
     match given {
         Ok(counts) => {
             let n = part.len();
-            part.copy_from_slice(&first[0..n]);
+            part.copy_from_slice(&first[..n]);
             clear(first);
             Ok(counts)
         }
@@ -101,8 +101,8 @@ fn read_marks<R: Reading>(
     steps: &mut [u64],
     part: &mut [u8],
 ) -> Result<Corrections, EntryFault>
-    requires line { (on_bare plan.now.numbers ≡ false) × (length readings.now ≡ air_length plan.now.numbers) }
-    requires room { (coded_length plan.now.numbers ≤ length first.old) × ((length second.old ≡ length first.old) × (step_count plan.now.numbers ≤ length steps.old)) }
+    requires line { LineBlock plan.now.numbers (length readings.now) }
+    requires room { RoomToRead plan.now.numbers first.old second.old steps.old }
     requires part { part.old ≡ zeros (body_length plan.now.numbers) }
     ensures { ReadEntry (read (body_length plan.now.numbers) ((line_plan R.Reading.cost R.Reading.clean plan.now.numbers plan.now.unit).got readings.now)) first.old second.old steps.old result part.new first.new second.new steps.new }
 {
@@ -121,20 +121,18 @@ fn mark_by_number(byte: u8) -> Option<bool>
     }
 }
 
-// Takes bytes to marks; answers the offset of the first that is none.
-fn fill_hard(bytes: &[u8], marks: &mut [Option<bool>]) -> Option<usize>
-    requires { length bytes.now ≡ length marks.old }
-    ensures first { result ≡ first_over 0 bytes.now }
-    ensures inside { IfSome result (λ i. i < length bytes.now) }
-    ensures marks { result ≡ None → marks.new ≡ map mark_of bytes.now }
+// Takes bytes to marks, or refuses the first byte that is none.
+fn fill_hard(bytes: &[u8], marks: &mut [Option<bool>]) -> Result<(), EntryFault>
+    requires { (length bytes.now ≡ length marks.old) × (length bytes.now ≤ 98304) }
+    ensures { MatchResult result (λ u. (first_over 0 bytes.now ≡ None) × (marks.new ≡ map mark_of bytes.now)) (λ w. FirstOver bytes.now w) }
 {
-    for i in 0..bytes.len() {
+    for (i, mark) in marks.iter_mut().enumerate() {
         if bytes[i] > 2 {
-            return Some(i);
+            return Err(EntryFault::Mark { offset: i as u32 });
         }
-        marks[i] = mark_by_number(bytes[i]);
+        *mark = mark_by_number(bytes[i]);
     }
-    None
+    Ok(())
 }
 
 // Takes bytes to soft readings.
@@ -142,8 +140,8 @@ fn fill_soft(bytes: &[u8], soft: &mut [i8])
     requires { length bytes.now ≡ length soft.old }
     ensures { soft.new ≡ map signed bytes.now }
 {
-    for i in 0..bytes.len() {
-        soft[i] = bytes[i].cast_signed();
+    for (i, reading) in soft.iter_mut().enumerate() {
+        *reading = bytes[i].cast_signed();
     }
 }
 
@@ -152,13 +150,34 @@ fn fill_samples(bytes: &[u8], soft: &mut [i8])
     requires { length bytes.now ≡ 2 * length soft.old }
     ensures { soft.new ≡ map soft_of (samples bytes.now) }
 {
-    for i in 0..soft.len() {
+    for (i, reading) in soft.iter_mut().enumerate() {
         let sample = i16::from_be_bytes([bytes[2 * i], bytes[2 * i + 1]]);
-        soft[i] = soft_of_sample(sample);
+        *reading = soft_of_sample(sample);
     }
 }
 
-// Reads a block of marks, or refuses it for a byte that is none.
+// Reads a block of marks into `marks`, or refuses it for a byte that is none.
+fn read_hard(
+    plan: &Plan,
+    bytes: &[u8],
+    first: &mut [u8],
+    second: &mut [u8],
+    steps: &mut [u64],
+    marks: &mut [Option<bool>],
+    part: &mut [u8],
+) -> Result<Corrections, EntryFault>
+    requires line { LineBlock plan.now.numbers (length bytes.now) }
+    requires room { RoomToRead plan.now.numbers first.old second.old steps.old }
+    requires marks { length marks.old ≡ air_length plan.now.numbers }
+    requires idle { (first.old ≡ zeros (length first.old)) × ((second.old ≡ zeros (length second.old)) × (steps.old ≡ zeros (length steps.old))) }
+    requires part { part.old ≡ zeros (body_length plan.now.numbers) }
+    ensures { ReadEntry (read_marks plan.now.numbers plan.now.unit bytes.now (first_over 0 bytes.now)) first.old second.old steps.old result part.new first.new second.new steps.new }
+{
+    fill_hard(bytes, marks)?;
+    read_marks(plan, marks, first, second, steps, part)
+}
+
+// Reads a block of marks, or refuses it for a byte that is none, and leaves no mark behind.
 fn run_hard(
     plan: &Plan,
     bytes: &[u8],
@@ -168,8 +187,8 @@ fn run_hard(
     hard: &mut [Option<bool>],
     part: &mut [u8],
 ) -> Result<Corrections, EntryFault>
-    requires line { (on_bare plan.now.numbers ≡ false) × (length bytes.now ≡ air_length plan.now.numbers) }
-    requires room { (coded_length plan.now.numbers ≤ length first.old) × ((length second.old ≡ length first.old) × (step_count plan.now.numbers ≤ length steps.old)) }
+    requires line { LineBlock plan.now.numbers (length bytes.now) }
+    requires room { RoomToRead plan.now.numbers first.old second.old steps.old }
     requires marks { air_length plan.now.numbers ≤ length hard.old }
     requires idle { (first.old ≡ zeros (length first.old)) × ((second.old ≡ zeros (length second.old)) × (steps.old ≡ zeros (length steps.old))) }
     requires part { part.old ≡ zeros (body_length plan.now.numbers) }
@@ -177,61 +196,29 @@ fn run_hard(
     ensures absent { hard.new ≡ replicate (length hard.old) None }
 {
     let n = bytes.len();
-    if let Some(offset) = fill_hard(bytes, &mut hard[0..n]) {
-        clear_hard(hard);
-        return Err(EntryFault::Mark {
-            offset: offset as u32,
-        });
-    }
-    let answer = read_marks(plan, &hard[0..n], first, second, steps, part);
+    let answer = read_hard(plan, bytes, first, second, steps, &mut hard[..n], part);
     clear_hard(hard);
     answer
 }
 
-// Reads a block of soft readings.
+// Reads a block of the soft readings at the front of `soft`, and leaves them all zero.
 fn run_soft(
     plan: &Plan,
-    bytes: &[u8],
     first: &mut [u8],
     second: &mut [u8],
     steps: &mut [u64],
     soft: &mut [i8],
     part: &mut [u8],
 ) -> Result<Corrections, EntryFault>
-    requires line { (on_bare plan.now.numbers ≡ false) × (length bytes.now ≡ air_length plan.now.numbers) }
-    requires room { (coded_length plan.now.numbers ≤ length first.old) × ((length second.old ≡ length first.old) × (step_count plan.now.numbers ≤ length steps.old)) }
+    requires line { on_bare plan.now.numbers ≡ false }
+    requires room { RoomToRead plan.now.numbers first.old second.old steps.old }
     requires readings { air_length plan.now.numbers ≤ length soft.old }
     requires part { part.old ≡ zeros (body_length plan.now.numbers) }
-    ensures read { ReadEntry (read_soft plan.now.numbers plan.now.unit (map signed bytes.now)) first.old second.old steps.old result part.new first.new second.new steps.new }
+    ensures read { ReadEntry (read_soft plan.now.numbers plan.now.unit (take (air_length plan.now.numbers) soft.old)) first.old second.old steps.old result part.new first.new second.new steps.new }
     ensures zero { soft.new ≡ replicate (length soft.old) (pos 0) }
 {
-    let n = bytes.len();
-    fill_soft(bytes, &mut soft[0..n]);
-    let answer = read_marks(plan, &soft[0..n], first, second, steps, part);
-    clear_soft(soft);
-    answer
-}
-
-// Reads a block of samples.
-fn run_samples(
-    plan: &Plan,
-    bytes: &[u8],
-    first: &mut [u8],
-    second: &mut [u8],
-    steps: &mut [u64],
-    soft: &mut [i8],
-    part: &mut [u8],
-) -> Result<Corrections, EntryFault>
-    requires line { (on_bare plan.now.numbers ≡ false) × (length bytes.now ≡ 2 * air_length plan.now.numbers) }
-    requires room { (coded_length plan.now.numbers ≤ length first.old) × ((length second.old ≡ length first.old) × (step_count plan.now.numbers ≤ length steps.old)) }
-    requires readings { air_length plan.now.numbers ≤ length soft.old }
-    requires part { part.old ≡ zeros (body_length plan.now.numbers) }
-    ensures read { ReadEntry (read_soft plan.now.numbers plan.now.unit (map soft_of (samples bytes.now))) first.old second.old steps.old result part.new first.new second.new steps.new }
-    ensures zero { soft.new ≡ replicate (length soft.old) (pos 0) }
-{
-    let n = bytes.len() / 2;
-    fill_samples(bytes, &mut soft[0..n]);
-    let answer = read_marks(plan, &soft[0..n], first, second, steps, part);
+    let n = plan.air_length();
+    let answer = read_marks(plan, &soft[..n], first, second, steps, part);
     clear_soft(soft);
     answer
 }
@@ -267,50 +254,27 @@ fn run_job(
                 run_hard(plan, bytes, first, second, steps, hard, part)
             }
         }
-        Kind::Soft => run_soft(plan, bytes, first, second, steps, soft, part),
-        Kind::Samples => run_samples(plan, bytes, first, second, steps, soft, part),
+        Kind::Soft => {
+            fill_soft(bytes, &mut soft[..bytes.len()]);
+            run_soft(plan, first, second, steps, soft, part)
+        }
+        Kind::Samples => {
+            fill_samples(bytes, &mut soft[..bytes.len() / 2]);
+            run_soft(plan, first, second, steps, soft, part)
+        }
     }
 }
 
-// The record of an entry.
-fn entry_of(
-    line: EntryLine,
-    place: usize,
-    size: usize,
-    answer: Result<Corrections, EntryFault>,
-) -> Entry
-    ensures parts { (result.line ≡ line) × ((result.place ≡ place) × (result.size ≡ size)) }
-    ensures told { (result.refusal ≡ refusal_of answer) × (result.counts ≡ counts_of answer) }
-{
-    match answer {
-        Ok(counts) => Entry {
-            line,
-            place,
-            size,
-            refusal: None,
-            counts,
-        },
-        Err(fault) => Entry {
-            line,
-            place,
-            size,
-            refusal: Some(fault),
-            counts: Corrections {
-                symbols: 0,
-                bytes: 0,
-            },
-        },
-    }
-}
-
-// How many bytes a job's result has.
-fn result_size(kind: Kind, plan: &Plan) -> usize
-    ensures value { result ≡ result_length kind plan.now.numbers }
-    ensures high { result ≤ 98304 }
-{
-    match kind {
-        Kind::Body => plan.air_length(),
-        Kind::Block | Kind::Soft | Kind::Samples => plan.body_length(),
+impl Job {
+    // How many bytes the job's result has.
+    fn result_size(&self) -> usize
+        ensures value { result ≡ result_length self.now.kind self.now.plan.numbers }
+        ensures high { result ≤ 98304 }
+    {
+        match self.kind {
+            Kind::Body => self.plan.air_length(),
+            Kind::Block | Kind::Soft | Kind::Samples => self.plan.body_length(),
+        }
     }
 }
 
@@ -339,17 +303,21 @@ fn run_entry(
     let Ok(job) = judge_entry(file, e, start) else {
         unreachable()
     };
-    let size = result_size(job.kind, &job.plan);
+    let size = job.result_size();
     let bytes = &file[start..start + job.length];
     let part = &mut results[place..place + size];
     let answer = run_job(&job, bytes, first, second, steps, hard, soft, part);
-    entry_of(read_line(file, e), place, size, answer)
+    Entry {
+        line: read_line(file, e),
+        place,
+        size,
+        answer,
+    }
 }
 
-// Runs every entry of an accepted book, one after another.
+// Runs every entry of an accepted book, one after another, and enters what became of each in its record.
 fn run_entries(
     file: &[u8],
-    count: usize,
     first: &mut [u8],
     second: &mut [u8],
     steps: &mut [u64],
@@ -358,20 +326,20 @@ fn run_entries(
     results: &mut [u8],
     records: &mut [Entry],
 )
-    requires right { (file_wrong file.now ≡ None) × (count ≡ entry_count file.now) }
-    requires room { (Enough (needs_before file.now (entry_count file.now)) (length first.old) (length second.old) (length steps.old) (length hard.old) (length soft.old)) × (((needs_before file.now (entry_count file.now)).results ≤ length results.old) × (count ≤ length records.old)) }
+    requires right { file_wrong file.now ≡ None }
+    requires room { (Enough (needs_before file.now (entry_count file.now)) (length first.old) (length second.old) (length steps.old) (length hard.old) (length soft.old)) × (((needs_before file.now (entry_count file.now)).results ≤ length results.old) × (length records.old ≡ entry_count file.now)) }
     requires idle { (Idle first.old second.old steps.old hard.old soft.old) × (results.old ≡ zeros (length results.old)) }
     ensures records { Recorded file.now (entry_count file.now) records.old records.new }
     ensures results { results.new ≡ padded (length results.old) (results_before file.now (entry_count file.now)) }
     ensures idle { Idle first.new second.new steps.new hard.new soft.new }
 {
-    let mut start = 2 + 6 * count;
+    let mut start = 2 + 6 * records.len();
     let mut place = 0;
-    for e in 0..count {
+    for (e, record) in records.iter_mut().enumerate() {
         let entry = run_entry(
             file, e, start, place, first, second, steps, hard, soft, results,
         );
-        records[e] = entry;
+        *record = entry;
         start += entry.line.length;
         place += entry.size;
     }
@@ -412,21 +380,20 @@ pub fn run_book(
     ensures late { TwoRefusals file.now }
 {
     let (count, needs) = judge_file(file)?;
-    if !needs.met(
-        count,
-        first.len(),
-        second.len(),
-        steps.len(),
-        hard.len(),
-        soft.len(),
-        results.len(),
-        records.len(),
-    ) {
+    let lent = Lent {
+        first: first.len(),
+        second: second.len(),
+        steps: steps.len(),
+        hard: hard.len(),
+        soft: soft.len(),
+        results: results.len(),
+        records: records.len(),
+    };
+    if !needs.met(count, &lent) {
         return Err(BookFault::Buffers);
     }
     clear_all(first, second, steps, hard, soft, results);
-    run_entries(
-        file, count, first, second, steps, hard, soft, results, records,
-    );
+    let entries = &mut records[..count];
+    run_entries(file, first, second, steps, hard, soft, results, entries);
     Ok(count)
 }

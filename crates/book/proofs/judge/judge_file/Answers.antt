@@ -1,4 +1,4 @@
-use Rattle.std.proofs.Common.{refl, ◌∙◌, arith}
+use Rattle.std.proofs.Common.{◌∙◌, arith, rules}
 use Rattle.std.proofs.lemmas.Result.{err_from_is_err_and}
 use Rattle.std.proofs.lemmas.Bool.Decides.{nat_tests}
 use Rattle.book.proofs.Covering.{covered, other_width, by_size, by_width, by_count, by_contents, by_parts}
@@ -27,7 +27,7 @@ returns-in_err-needs c =
 
 pub returns : goal.returns
 returns c = record {
-  judged = (by_parts _ (grind (arith, nat_tests)) c.if-file-ne6.false (grind (arith, nat_tests)) (grind (arith, nat_tests)) ∙ c.in_ok-needs.ensures.0, refl, c.in_ok-needs.ensures.1);
+  judged = (by_parts _ (grind (arith, nat_tests)) c.if-file-ne6.false (grind (arith, nat_tests)) (grind (arith, nat_tests)) ∙ c.in_ok-needs.ensures.0, c.from-count.ensures, search rules);
   covered = covered _;
   other_width = other_width _;
 }

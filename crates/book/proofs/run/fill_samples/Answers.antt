@@ -11,7 +11,7 @@ loop-i-preserved c =
     let g : SFits w16 c.from_be_bytes-sample.result = search rules in
     one_more soft_of (samples c.args.bytes.now) c.loop-i.soft (pos 0) _ c.loop-i.i (omega arith) (omega arith)
     (to_z-of_z f ∙ c.soft_of_sample.ensures.value
-    ∙ ap soft_of (to_z-of_z g ∙ c.from_be_bytes-sample.ensures ∙ sym (sample_at (length c.args.soft.now) c.loop-i.i c.args.bytes.now (pos 0) c.requires c.loop-i-test.true)))
+    ∙ ap soft_of (to_z-of_z g ∙ c.from_be_bytes-sample.ensures ∙ sym (sample_at (length c.args.soft.now) c.loop-i.i c.args.bytes.now (pos 0) c.requires (omega arith))))
     c.loop-i.invariant
 
 pub returns : goal.returns

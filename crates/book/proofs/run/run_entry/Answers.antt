@@ -6,7 +6,7 @@ use borrow.Rule.Slice.PartMut.{put_mid}
 use Rattle.stack.specs.Buffers.{zeros, padded}
 use Rattle.stack.specs.Bodies.{length-padded}
 use Rattle.book.specs.declared.contents.EntryLine.{EntryLine}
-use Rattle.book.specs.Running.{Outcome, Reached, entry_outcome, outcome, results_before}
+use Rattle.book.specs.Running.{Outcome, entry_outcome, outcome, results_before}
 use Rattle.book.proofs.Covering.{starts}
 use Rattle.book.proofs.Judged.{job_needs}
 use Rattle.book.proofs.Entries.{line_inside, entry_right, ends_inside, enough_for, results_fit, job_outcome, bytes_are, part_empty, part_written, recorded, reached_more, file_small, size_is}
@@ -78,7 +78,7 @@ returns c =
     = job_outcome f e j job ∙ ap (outcome j.kind j.plan.numbers j.plan.unit) (sym (bytes_are f (line_at f e) c.args.start j.length (sym starts-there) job.long)) in
     let result : c.run_job-answer.new.part ≡ (entry_outcome f e).result = done.result ∙ ap (λ (o : Outcome). o.result) (sym is) in
     let long : length c.run_job-answer.new.part ≡ c.result_size-size.result = search rules in
-    let line : c.entry_of.result.line ≡ line_at f e = c.entry_of.ensures.parts.0 ∙ c.read_line.ensures.value in
+    let line = c.read_line.ensures.value in
     let room : c.args.place + c.result_size-size.result ≤ length c.args.results.now = omega (arith, results_fit f e (count f) c.requires.right.1, c.requires.reached.place_is, c.requires.room.1, size) in
     let after = put_mid c.args.place (c.args.place + c.result_size-size.result - c.args.place) c.args.results.now c.run_job-answer.new.part in
     let put : after ≡ padded (length c.args.results.now) (results_before f e ++ c.run_job-answer.new.part)
@@ -86,10 +86,8 @@ returns c =
     let same : length after ≡ length c.args.results.now
     = ap length put ∙ length-padded (length c.args.results.now) (results_before f e ++ c.run_job-answer.new.part) (omega (arith, length-append (results_before f e) c.run_job-answer.new.part, c.requires.reached.long, long, room)) in
     record {
-      «record» = recorded f e c.args.place c.result_size-size.result c.entry_of.result c.run_job-answer.result line c.entry_of.ensures.parts.1.0 c.entry_of.ensures.parts.1.1 c.entry_of.ensures.told.0 c.entry_of.ensures.told.1
-          c.requires.reached.place_is (sym (ap length result) ∙ long) (done.answer ∙ ap (λ (o : Outcome). o.answer) (sym is));
-      reached = subst (λ (n : ℕ). Reached f (e + 1) (c.args.start + c.entry_of.result.line.length) (c.args.place + n) after) (sym c.entry_of.ensures.parts.1.1)
-          (reached_more f e c.args.start c.args.place c.result_size-size.result c.args.results.now after c.run_job-answer.new.part c.entry_of.result.line c.requires.reached line (sym size) result long same put);
-      bounds = (omega (arith, ends_inside f e c.requires.right.0 c.requires.right.1, c.requires.reached.start_is, ap (λ (l : EntryLine). l.length) line), omega (arith, room, c.entry_of.ensures.parts.1.1));
+      «record» = recorded f e c.args.place c.result_size-size.result c.read_line.result c.run_job-answer.result line c.requires.reached.place_is (sym (ap length result) ∙ long) (done.answer ∙ ap (λ (o : Outcome). o.answer) (sym is));
+      reached = reached_more f e c.args.start c.args.place c.result_size-size.result c.args.results.now after c.run_job-answer.new.part c.read_line.result c.requires.reached line (sym size) result long same put;
+      bounds = (omega (arith, ends_inside f e c.requires.right.0 c.requires.right.1, c.requires.reached.start_is, ap (λ (l : EntryLine). l.length) line), room);
       idle = done.idle;
     }

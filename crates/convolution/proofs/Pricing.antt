@@ -115,7 +115,7 @@ priced_turns rate c same other is turn =
     }
 
 -- three swings on top of the costs for mark 0
-pub swings_sum : (z0 z1 z2 a b d p q r : ℕ) → (a + z0) % 65536 ≡ p → (b + z1) % 65536 ≡ q → (d + z2) % 65536 ≡ r → p ≤ 128 → q ≤ 128 → r ≤ 128 → (((z0 + z1 + z2 + a) % 65536 + b) % 65536 + d) % 65536 ≡ p + q + r
+pub swings_sum : (z0 z1 z2 a b d p q r : ℕ) → (a + z0) % 65536 ≡ p → (b + z1) % 65536 ≡ q → (d + z2) % 65536 ≡ r → p ≤ 255 → q ≤ 255 → r ≤ 255 → (((z0 + z1 + z2 + a) % 65536 + b) % 65536 + d) % 65536 ≡ p + q + r
 swings_sum z0 z1 z2 a b d p q r e f g h i j = omega arith
 
 slot_of : (rate : Rate) (price : ℕ → ℕ → ℕ) (t : ℕ) (c : StepCosts) (g m : ℕ) → Prices rate price t c → g < 3 → m < 2 → slot_cost c g m ≡ slot rate price t g m

@@ -66,7 +66,6 @@ impl From<Rate> for Generators {
 
 // The sum of all costs of a step.
 fn total(c: StepCosts) -> u16
-    requires { Small c }
     ensures { result ≡ all_costs c }
 {
     let [first, second, third] = c.marks;
@@ -76,7 +75,6 @@ fn total(c: StepCosts) -> u16
 
 // What the windows 2s below 64 cost.
 fn price(generators: &Generators, c: StepCosts) -> u16x32
-    requires { Small c }
     ensures { (s : ℕ) → s < 32 → slice_index result s ≡ window_cost generators.now.rate c (2 * s) }
 {
     let [first, second, third] = c.marks;
@@ -88,7 +86,6 @@ fn price(generators: &Generators, c: StepCosts) -> u16x32
 
 // What the windows 2s below 64 cost, and what they cost with the oldest or the newest bit turned.
 fn prices(generators: &Generators, c: StepCosts) -> (u16x32, u16x32)
-    requires { Small c }
     ensures { Turns (window_cost generators.now.rate c) result.0 result.1 }
 {
     let same = price(generators, c);

@@ -1,7 +1,7 @@
 -- The marks of a body, byte after byte and then the tail.
-use Rattle.std.proofs.Common.{◌≡◌, ℕ, zero, suc, ◌+◌, ◌*◌, ◌<◌, ◌≤◌, Bool, true, false, cond, List, [], ◌∷◌, ◌++◌, length, get_or, take, sym, refl, ap, ◌∙◌, subst, ap₂, add-zero, add-suc, add-one, arith}
+use Rattle.std.proofs.Common.{◌≡◌, ℕ, zero, suc, ◌+◌, ◌*◌, ◌<◌, ◌≤◌, Bool, true, false, cond, List, [], ◌∷◌, ◌++◌, length, get_or, take, sym, refl, ap, ◌∙◌, subst, add-zero, add-suc, add-one, arith}
 use Rattle.std.specs.List.{flat_map}
-use Rattle.std.proofs.lemmas.List.{append-nil, append_assoc, flat_map_more, length-append, length-take-le, take_more, take_all}
+use Rattle.std.proofs.lemmas.List.{append-nil, append_assoc, flat_map_more, length-append, take_more, take_all}
 use Rattle.convolution.specs.declared.encoder.Encoder.{Encoder}
 use Rattle.convolution.specs.declared.rate.Rate.{Rate}
 use Rattle.convolution.specs.Code.{Word, bits, mark, generators, keeps, kept_from, all_bits, fed, zeros, window, step_marks, marks_to, marks, marks_before}
@@ -51,9 +51,9 @@ sent_front rate w m =
     (front.0, ap (marks_to rate (w ++ m)) (length-append w m) ∙ front.1 ∙ ap (λ (l : List ℕ). l ++ front.0) (marks_to-append rate w m (length w) (omega arith)))
 
 -- the number of marks of a run
-pub ran_count : {rate : Rate} {w m : Word} {e : Encoder} {n : ℕ} {out : List ℕ} → Ran rate w m e n out → n ≤ length out → marks_before rate (length (w ++ m)) ≡ marks_before rate (length w) + n
-ran_count {rate} {w} {m} {e} {n} {out} r h =
-    sym (length-sent rate (w ++ m)) ∙ ap length r.written ∙ length-append (sent rate w) (take n out) ∙ ap₂ ◌+◌ (length-sent rate w) (length-take-le n out h)
+pub ran_count : {rate : Rate} {w m : Word} {e : Encoder} {out : List ℕ} → Ran rate w m e out → marks_before rate (length (w ++ m)) ≡ marks_before rate (length w) + length out
+ran_count {rate} {w} {m} {e} {out} r =
+    sym (length-sent rate (w ++ m)) ∙ ap length r.written ∙ length-append (sent rate w) out ∙ ap (λ n. n + length out) (length-sent rate w)
 
 -- one byte more
 pub sent_byte : (rate : Rate) (body : List ℕ) (k d : ℕ) (out ms : List ℕ) → k < length body → out ≡ sent rate (all_bits (take k body))

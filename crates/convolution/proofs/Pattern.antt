@@ -1,5 +1,5 @@
 -- Which marks are kept: the patterns repeat every six steps, and their numbers have closed forms.
-use Rattle.std.proofs.Common.{◌≡◌, ℕ, zero, suc, ◌+◌, ◌*◌, ◌/◌, ◌%◌, ◌^◌, ◌<◌, ◌≤◌, Bool, true, false, cond, not, ◌&&◌, eqb, List, [], ◌∷◌, length, get_or, refl, ap, ◌∙◌, ap₂, ⊎_elim, arith}
+use Rattle.std.proofs.Common.{◌≡◌, ℕ, zero, suc, ◌+◌, ◌*◌, ◌/◌, ◌%◌, ◌^◌, ◌<◌, ◌≤◌, Bool, true, false, cond, not, ◌&&◌, eqb, List, [], ◌∷◌, length, get_or, sym, refl, ap, ◌∙◌, subst, ap₂, ⊎_elim, arith}
 use Rattle.std.proofs.lemmas.Nat.{shr-shr}
 use Rattle.std.proofs.lemmas.List.{length-append}
 use Rattle.std.proofs.lemmas.Bool.{eqb-true, eqb-false, and_parts, cases_lt}
@@ -99,12 +99,14 @@ pattern_at rate g p i h k l =
     ap (λ (n : ℕ). n % 2) (shr-shr (get_or (patterns rate) g 0) p i) ∙ eqb-true _ _ (below_at (agrees rate g) 16 (all_agree rate g h) (p + i) (omega arith))
 
 -- the patterns from step p on
-pub patterns-from : (rate : Rate) (ps : List ℕ) (p : ℕ) → ps ≡ patterns rate → p < 6
-    → KeptBits rate p (get_or ps 0 0 / 2 ^ p ∷ get_or ps 1 0 / 2 ^ p ∷ get_or ps 2 0 / 2 ^ p ∷ [])
-patterns-from rate ps p e k zero i h l = ap (λ (xs : List ℕ). get_or xs 0 0 / 2 ^ p / 2 ^ i % 2) e ∙ pattern_at rate 0 p i h k l
-patterns-from rate ps p e k (suc zero) i h l = ap (λ (xs : List ℕ). get_or xs 1 0 / 2 ^ p / 2 ^ i % 2) e ∙ pattern_at rate 1 p i h k l
-patterns-from rate ps p e k (suc (suc zero)) i h l = ap (λ (xs : List ℕ). get_or xs 2 0 / 2 ^ p / 2 ^ i % 2) e ∙ pattern_at rate 2 p i h k l
-patterns-from rate ps p e k (suc (suc (suc g))) i h l = absurd (omega arith)
+pub kept_rows : {rate r : Rate} → rate ≡ r → (p a b c : ℕ) → p < 6 → a ≡ get_or (patterns r) 0 0 / 2 ^ p → b ≡ get_or (patterns r) 1 0 / 2 ^ p → c ≡ get_or (patterns r) 2 0 / 2 ^ p → KeptBits rate p (a ∷ b ∷ c ∷ [])
+kept_rows {rate} {r} same p a b c k d e f = subst (λ (s : Rate). KeptBits s p (a ∷ b ∷ c ∷ [])) (sym same) kept
+  where
+    kept : KeptBits r p (a ∷ b ∷ c ∷ [])
+    kept zero i h l = ap (λ n. n / 2 ^ i % 2) d ∙ pattern_at r 0 p i h k l
+    kept (suc zero) i h l = ap (λ n. n / 2 ^ i % 2) e ∙ pattern_at r 1 p i h k l
+    kept (suc (suc zero)) i h l = ap (λ n. n / 2 ^ i % 2) f ∙ pattern_at r 2 p i h k l
+    kept (suc (suc (suc g))) i h l = absurd (omega arith)
 
 -- how many marks each rate keeps
 

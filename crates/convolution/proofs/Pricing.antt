@@ -5,11 +5,11 @@ use lib.Count.{ones, ones_cat}
 use Rattle.std.proofs.lemmas.Bool.{cond_both, cases_lt}
 use Rattle.convolution.specs.declared.rate.Rate.{Rate}
 use Rattle.convolution.specs.declared.rate.Rate.TheVariants.{Half, TwoThirds, ThreeQuarters, Third}
-use Rattle.convolution.specs.declared.viterbi.StepCosts.{StepCosts}
+use Rattle.convolution.specs.declared.costs.StepCosts.{StepCosts}
 use Rattle.convolution.specs.Code.{bit, mark, generators, keeps, kept_from, step_marks, marks_before}
 use Rattle.convolution.specs.Cost.{cost_from, step_cost}
 use Rattle.convolution.specs.Lanes.{Turns}
-use Rattle.convolution.specs.Slots.{generator_at, kept_before, slot, Prices, Small, all_costs, slot_cost, window_cost}
+use Rattle.convolution.specs.Slots.{generator_at, kept_before, slot, Prices, Small, all_costs, costs_of, slot_cost, window_cost}
 
 masked : (x : ℕ) → x < 65536 → bit_and 65535 x ≡ x
 masked x h = and_comm 65535 x ∙ and_mask x 16 ∙ omega arith
@@ -79,13 +79,13 @@ mark_turns rate g w h = elim (cases_lt (w % 2) 1) [ inl l ↦ even l | inr l ↦
         let f : w + 64 ≡ 2 * (w / 2) + 65 = omega arith in
         omega (arith, t.oldest, t.both, ap (mark (generator_at rate g)) e, ap (mark (generator_at rate g)) f)
 
-slot_turn : (c : StepCosts) (g p q : ℕ) → p < 2 → q ≡ 1 - p → slot_cost c g q + slot_cost c g p ≡ get_or c.zero g 0 + get_or c.one g 0
+slot_turn : (c : StepCosts) (g p q : ℕ) → p < 2 → q ≡ 1 - p → slot_cost c g q + slot_cost c g p ≡ (costs_of c g).zero + (costs_of c g).one
 slot_turn c g zero q h e = rw e (omega arith)
 slot_turn c g (suc zero) q h e = rw e (omega arith)
 slot_turn c g (suc (suc p)) q h e = absurd (omega arith)
 
-pub slot_le : (c : StepCosts) (g m b : ℕ) → get_or c.zero g 0 ≤ b → get_or c.one g 0 ≤ b → slot_cost c g m ≤ b
-slot_le c g m b p q = cond_both (eqb m 0) (get_or c.zero g 0) (get_or c.one g 0) (λ v. v ≤ b) (λ _. p) (λ _. q)
+pub slot_le : (c : StepCosts) (g m b : ℕ) → (costs_of c g).zero ≤ b → (costs_of c g).one ≤ b → slot_cost c g m ≤ b
+slot_le c g m b p q = cond_both (eqb m 0) ((costs_of c g).zero) ((costs_of c g).one) (λ v. v ≤ b) (λ _. p) (λ _. q)
 
 pub window_le : (rate : Rate) (c : StepCosts) (w : ℕ) → Small c → window_cost rate c w ≤ 384
 unfolding window_cost
@@ -96,7 +96,7 @@ window_le rate c w h =
 pub window_le_all : (rate : Rate) (c : StepCosts) (w : ℕ) → window_cost rate c w ≤ all_costs c
 unfolding window_cost
 window_le_all rate c w =
-    let e = λ (g : ℕ). slot_le c g (mark (generator_at rate g) w) (get_or c.zero g 0 + get_or c.one g 0) (omega arith) (omega arith) in
+    let e = λ (g : ℕ). slot_le c g (mark (generator_at rate g) w) ((costs_of c g).zero + (costs_of c g).one) (omega arith) (omega arith) in
     omega (arith, e 0, e 1, e 2)
 
 pub priced_turns : (rate : Rate) (c : StepCosts) (same other : List ℕ) → ((s : ℕ) → s < 32 → get_or same s 0 ≡ window_cost rate c (2 * s)) → ((s : ℕ) → s < 32 → get_or other s 0 ≡ all_costs c - get_or same s 0) → Turns (window_cost rate c) same other
@@ -115,7 +115,7 @@ priced_turns rate c same other is turn =
     }
 
 -- three swings on top of the costs for mark 0
-pub swings_sum : (z0 z1 z2 a b d p q r : ℕ) → (a + z0) % 65536 ≡ p → (b + z1) % 65536 ≡ q → (d + z2) % 65536 ≡ r → p ≤ 128 → q ≤ 128 → r ≤ 128 → (((z0 + z1 + z2 + a) % 65536 + b) % 65536 + d) % 65536 ≡ p + q + r
+pub swings_sum : (z0 z1 z2 a b d p q r : ℕ) → (a + z0) % 65536 ≡ p → (b + z1) % 65536 ≡ q → (d + z2) % 65536 ≡ r → p ≤ 255 → q ≤ 255 → r ≤ 255 → (((z0 + z1 + z2 + a) % 65536 + b) % 65536 + d) % 65536 ≡ p + q + r
 swings_sum z0 z1 z2 a b d p q r e f g h i j = omega arith
 
 slot_of : (rate : Rate) (price : ℕ → ℕ → ℕ) (t : ℕ) (c : StepCosts) (g m : ℕ) → Prices rate price t c → g < 3 → m < 2 → slot_cost c g m ≡ slot rate price t g m

@@ -4,7 +4,7 @@ use lib.Dec.{eqb-suc-zero}
 use lib.ListN.{get_or-replicate}
 use Rattle.std.proofs.lemmas.Bool.Decides.{nat_tests}
 use Rattle.convolution.specs.declared.rate.Rate.{Rate}
-use Rattle.convolution.specs.declared.viterbi.StepCosts.{StepCosts}
+use Rattle.convolution.specs.declared.costs.StepCosts.{StepCosts}
 use Rattle.convolution.specs.Code.{bit}
 use Rattle.convolution.specs.Cost.{step_cost}
 use Rattle.convolution.specs.Lanes.{through, Selected}

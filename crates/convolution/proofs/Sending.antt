@@ -1,5 +1,5 @@
 -- The marks of a word that grows: what was sent stays, and the next marks come after it.
-use Rattle.std.proofs.Common.{◌≡◌, ℕ, zero, suc, ◌+◌, ◌*◌, ◌/◌, ◌%◌, ◌^◌, ◌<◌, ◌≤◌, Bool, List, [], ◌∷◌, ◌++◌, length, take, sym, refl, ap, ◌∙◌, subst, ap₂, add-zero, add-suc, add-one, arith}
+use Rattle.std.proofs.Common.{◌≡◌, ℕ, zero, suc, ◌+◌, ◌*◌, ◌/◌, ◌%◌, ◌^◌, ◌<◌, ◌≤◌, Bool, List, [], ◌∷◌, ◌++◌, length, sym, refl, ap, ◌∙◌, subst, ap₂, add-zero, add-suc, add-one, arith}
 use Rattle.std.proofs.lemmas.List.{append-nil, append_assoc, append_cancel_left, length-append, length_push}
 use Rattle.convolution.specs.declared.encoder.Encoder.{Encoder}
 use Rattle.convolution.specs.declared.rate.Rate.{Rate}
@@ -54,10 +54,10 @@ module _ {rate : Rate} {w : Word} {e : Encoder} (a : After rate w e) (m : Word) 
   next_turned = omega (arith, a.turned, length-append w m)
 
 -- one bit is one step
-pub ran_one : {rate : Rate} (w : Word) {b : Bool} {e : Encoder} {n : ℕ} {out : List ℕ} → Ran rate w (b ∷ []) e n out → Stepped rate w b e n out
+pub ran_one : {rate : Rate} (w : Word) {b : Bool} {e : Encoder} {out : List ℕ} → Ran rate w (b ∷ []) e out → Stepped rate w b e out
 unfolding sent marks_to
-ran_one {rate} w {b} {e} {n} {out} r =
-    let whole : sent rate w ++ take n out ≡ sent rate w ++ step_marks rate (length w) (window (w ++ b ∷ []) (length w)) =
+ran_one {rate} w {b} {e} {out} r =
+    let whole : sent rate w ++ out ≡ sent rate w ++ step_marks rate (length w) (window (w ++ b ∷ []) (length w)) =
     sym r.written ∙ ap (marks_to rate (w ++ b ∷ [])) (length_push w b ∙ add-one (length w))
     ∙ ap (λ (l : List ℕ). l ++ step_marks rate (length w) (window (w ++ b ∷ []) (length w))) (marks_to-append rate w (b ∷ []) (length w) (omega arith)) in
     record { after = r.after; written = append_cancel_left (sent rate w) _ _ whole }

@@ -1,18 +1,41 @@
 -- Marks written one after another, the next over one that is not kept.
-use Rattle.std.proofs.Common.{◌≡◌, ℕ, zero, suc, ◌+◌, ◌/◌, ◌%◌, ◌^◌, ◌<◌, Bool, true, false, cond, List, [], ◌∷◌, ◌++◌, length, get_or, take, set, sym, refl, ap, ◌∙◌, add-zero, arith}
-use Rattle.std.proofs.lemmas.List.{append-nil, append_assoc, take-set, take_more_set}
+use Rattle.std.proofs.Common.{◌≡◌, ℕ, zero, suc, ◌+◌, ◌/◌, ◌%◌, ◌^◌, ◌<◌, ◌≤◌, Bool, true, false, cond, List, [], ◌∷◌, ◌++◌, length, get_or, map, take, sym, refl, ap, ◌∙◌, arith}
+use Rattle.std.proofs.lemmas.List.{append-nil, append_assoc, flat_map_more, length-append, take_more}
+use Rattle.std.specs.List.{flat_map}
 use Rattle.convolution.specs.declared.rate.Rate.{Rate}
+use Rattle.convolution.specs.declared.runs.Row.{Row}
 use Rattle.convolution.specs.declared.rate.Rate.TheVariants.{Half, TwoThirds, ThreeQuarters, Third}
 use Rattle.convolution.specs.Code.{bit, keeps, kept_from, step_marks}
 use Rattle.convolution.specs.Encoding.{kept_bit, picked, MarkBits, KeptBits}
 
-pub take_put : (xs : List ℕ) (n k v : ℕ) → n < length xs → k < 2 → take (n + k) (set xs n v) ≡ take n xs ++ take k (v ∷ [])
-take_put xs n zero v h l = ap (λ (m : ℕ). take m (set xs n v)) (add-zero n) ∙ take-set xs n v ∙ sym (append-nil (take n xs))
-take_put xs n (suc zero) v h l = take_more_set xs n v h
-take_put xs n (suc (suc k)) v h l = absurd (omega arith)
+-- what one row adds in step i
+abbrev pub kept_of : ℕ → Row → List ℕ
+kept_of i r = take (r.kept / 2 ^ i % 2) (r.marks / 2 ^ i % 2 ∷ [])
 
-pub append_three : (a x y z : List ℕ) {b c d : List ℕ} → b ≡ a ++ x → c ≡ b ++ y → d ≡ c ++ z → d ≡ a ++ (x ++ y ++ z)
-append_three a x y z p q r = r ∙ ap (λ (l : List ℕ). l ++ z) (q ∙ ap (λ (l : List ℕ). l ++ y) p) ∙ simp append_assoc
+-- a row adds at most one mark
+pub row_count : (r : Row) (i : ℕ) (old : List ℕ) {new : List ℕ} → new ≡ old ++ kept_of i r → length new ≤ length old + 1
+row_count r i old e = omega (arith, ap length e, length-append old (kept_of i r), few (r.kept / 2 ^ i % 2) (r.marks / 2 ^ i % 2))
+  where
+    few : (n v : ℕ) → length (take n (v ∷ [])) ≤ 1
+    few zero v = omega arith
+    few (suc zero) v = omega arith
+    few (suc (suc n)) v = omega arith
+
+-- one row more
+pub row_more : (rows : List Row) (i k : ℕ) (d : Row) (before old new : List ℕ) → k < length rows → old ≡ before ++ flat_map (kept_of i) (take k rows) → new ≡ old ++ kept_of i (get_or rows k d)
+    → new ≡ before ++ flat_map (kept_of i) (take (k + 1) rows)
+row_more rows i k d before old new h e f =
+    f ∙ ap (λ (l : List ℕ). l ++ kept_of i (get_or rows k d)) e ∙ flat_map_more (kept_of i) before (take k rows) (get_or rows k d)
+    ∙ ap (λ (l : List Row). before ++ flat_map (kept_of i) l) (sym (take_more rows k d h))
+
+-- three rows, one after another
+pub picked_rows : (rows : List Row) (i : ℕ) → length rows ≡ 3 → flat_map (kept_of i) rows ≡ picked (map (λ r. r.marks) rows) (map (λ r. r.kept) rows) i
+unfolding picked
+picked_rows [] i h = absurd (omega arith)
+picked_rows (a ∷ []) i h = absurd (omega arith)
+picked_rows (a ∷ b ∷ []) i h = absurd (omega arith)
+picked_rows (a ∷ b ∷ c ∷ []) i h = simp (append_assoc, append-nil)
+picked_rows (a ∷ b ∷ c ∷ d ∷ rows) i h = absurd (omega arith)
 
 two : (p q : Bool) (m n o : ℕ) → take (bit p) (m ∷ []) ++ take (bit q) (n ∷ []) ++ take 0 (o ∷ []) ≡ cond p (m ∷ cond q (n ∷ []) []) (cond q (n ∷ []) [])
 two true true m n o = refl

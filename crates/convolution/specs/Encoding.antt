@@ -41,12 +41,12 @@ pub record After (r : Rate) (w : Word) (e : Encoder) : Type 0 where
   pub held : e.state ≡ newest w
   pub turned : e.phase ≡ length w % 6
 
--- after the bits w the encoder took the bit b: it is e now, and the step's kept marks are the first n of out
-pub record Stepped (r : Rate) (w : Word) (b : Bool) (e : Encoder) (n : ℕ) (out : List ℕ) : Type 0 where
+-- after the bits w the encoder took the bit b: it is e now, and the step's kept marks are out
+pub record Stepped (r : Rate) (w : Word) (b : Bool) (e : Encoder) (out : List ℕ) : Type 0 where
   pub after : After r (w ++ b ∷ []) e
-  pub written : take n out ≡ step_marks r (length w) (window (w ++ b ∷ []) (length w))
+  pub written : out ≡ step_marks r (length w) (window (w ++ b ∷ []) (length w))
 
--- after the bits w the encoder took the bits m: it is e now, and the kept marks of their steps are the first n of out
-pub record Ran (r : Rate) (w m : Word) (e : Encoder) (n : ℕ) (out : List ℕ) : Type 0 where
+-- after the bits w the encoder took the bits m: it is e now, and the kept marks of their steps are out
+pub record Ran (r : Rate) (w m : Word) (e : Encoder) (out : List ℕ) : Type 0 where
   pub after : After r (w ++ m) e
-  pub written : sent r (w ++ m) ≡ sent r w ++ take n out
+  pub written : sent r (w ++ m) ≡ sent r w ++ out

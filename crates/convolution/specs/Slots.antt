@@ -1,7 +1,8 @@
 -- The costs of one step, a slot for each of up to three generators, and what a run of steps does with them.
 use Rattle.std.specs.Prelude.{◌≡◌, ℕ, zero, suc, ◌+◌, ◌*◌, ◌<◌, ◌≤◌, cond, ◌&&◌, List, [], length, ◌==◌, nat_lt, slice_index, slice_index_or}
 use Rattle.convolution.specs.declared.rate.Rate.{Rate}
-use Rattle.convolution.specs.declared.viterbi.StepCosts.{StepCosts}
+use Rattle.convolution.specs.declared.costs.MarkCosts.{MarkCosts}
+use Rattle.convolution.specs.declared.costs.StepCosts.{StepCosts}
 use Rattle.convolution.specs.Code.{bit, mark, generators, keeps, marks_before, all_bits}
 use Rattle.convolution.specs.Cost.{step_cost, least, Least}
 use Rattle.convolution.specs.Trellis.{Tracks, Chose}
@@ -19,14 +20,26 @@ kept_before rate t (suc g) = kept_before rate t g + bit (keeps rate t g)
 unfoldable pub slot : Rate → (ℕ → ℕ → ℕ) → ℕ → ℕ → ℕ → ℕ
 slot rate price t g m = cond (nat_lt g (length (generators rate)) && keeps rate t g) (price (marks_before rate t + kept_before rate t g) m) 0
 
+-- a mark that costs nothing
+abbrev pub none : MarkCosts
+none = record { zero = 0; one = 0 }
+
+-- what a mark costs
+abbrev pub cost_of : MarkCosts → ℕ → ℕ
+cost_of c m = cond (m == 0) c.zero c.one
+
+-- the costs of slot g
+abbrev pub costs_of : StepCosts → ℕ → MarkCosts
+costs_of c g = slice_index_or c.marks g none
+
 -- the costs c are those of step t
 pub record Prices (rate : Rate) (price : ℕ → ℕ → ℕ) (t : ℕ) (c : StepCosts) : Type 0 where
-  pub zeros : (g : ℕ) → g < 3 → slice_index c.zero g ≡ slot rate price t g 0
-  pub ones : (g : ℕ) → g < 3 → slice_index c.one g ≡ slot rate price t g 1
+  pub zeros : (g : ℕ) → g < 3 → (costs_of c g).zero ≡ slot rate price t g 0
+  pub ones : (g : ℕ) → g < 3 → (costs_of c g).one ≡ slot rate price t g 1
 
 -- a step that costs nothing
 abbrev pub free : StepCosts
-free = record { zero = []; one = [] }
+free = record { marks = [] }
 
 -- the costs cs are those of the steps from n on
 abbrev pub Priced : Rate → (ℕ → ℕ → ℕ) → ℕ → List StepCosts → Type 0
@@ -34,16 +47,16 @@ Priced rate price n cs = (k : ℕ) → k < length cs → Prices rate price (n + 
 
 -- each cost of a step is at most 128
 pub record Small (c : StepCosts) : Type 0 where
-  pub zeros : (g : ℕ) → g < 3 → slice_index c.zero g ≤ 128
-  pub ones : (g : ℕ) → g < 3 → slice_index c.one g ≤ 128
+  pub zeros : (g : ℕ) → g < 3 → (costs_of c g).zero ≤ 128
+  pub ones : (g : ℕ) → g < 3 → (costs_of c g).one ≤ 128
 
 -- the sum of all costs of a step
 abbrev pub all_costs : StepCosts → ℕ
-all_costs c = (slice_index c.zero 0 + slice_index c.zero 1 + slice_index c.zero 2) + (slice_index c.one 0 + slice_index c.one 1 + slice_index c.one 2)
+all_costs c = ((costs_of c 0).zero + (costs_of c 1).zero + (costs_of c 2).zero) + ((costs_of c 0).one + (costs_of c 1).one + (costs_of c 2).one)
 
 -- what slot g costs for the mark m
 abbrev pub slot_cost : StepCosts → ℕ → ℕ → ℕ
-slot_cost c g m = cond (m == 0) (slice_index c.zero g) (slice_index c.one g)
+slot_cost c g m = cost_of (costs_of c g) m
 
 -- what the window w costs by the three slots
 unfoldable pub window_cost : Rate → StepCosts → ℕ → ℕ

@@ -1,9 +1,11 @@
 // One step of the decoder on vectors of 32 lanes.
-ghost use Rattle.std.specs.Prelude.{◌≡◌, ℕ, ◌+◌, ◌-◌, ◌*◌, ◌%◌, ◌^◌, ◌<◌, ◌≤◌, not, ◌++◌, length, if◌then◌else◌, nat_eq, nat_lt, slice_index};
+ghost use Rattle.std.specs.Prelude.{◌≡◌, ℕ, ◌+◌, ◌-◌, ◌*◌, ◌%◌, ◌^◌, ◌<◌, ◌≤◌, not, ◌++◌, length, if◌then◌else◌, nat_lt, slice_index};
 ghost use Rattle.convolution.specs.Code.{bit, mark};
 ghost use Rattle.convolution.specs.Lanes.{Selected, Turns, Near, Masks};
+ghost use Rattle.convolution.specs.Slots.{cost_of};
 ghost use Rattle.convolution.specs.Trellis.{bit_of};
 
+use crate::costs::MarkCosts;
 use std::simd::prelude::*;
 
 // The costs at even places, and those at odd ones.
@@ -46,11 +48,11 @@ pub fn select(low: u16x32, high: u16x32, same: u16x32, other: u16x32) -> (u16x32
 }
 
 // What the marks in a mask add, modulo 2^16, to the cost for mark 0.
-pub fn swing(mask: u16x32, zero: u8, one: u8) -> u16x32
+pub fn swing(mask: u16x32, costs: MarkCosts) -> u16x32
     ensures long { length result ≡ 32 }
-    ensures each { (m s : ℕ) → s < 32 → Masks m mask → (slice_index result s + zero) % 65536 ≡ (if nat_eq (mark m (2 * s)) 0 then zero else one) }
+    ensures each { (m s : ℕ) → s < 32 → Masks m mask → (slice_index result s + costs.zero) % 65536 ≡ cost_of costs (mark m (2 * s)) }
 {
-    mask & u16x32::splat((one as u16).wrapping_sub(zero as u16))
+    mask & u16x32::splat((costs.one as u16).wrapping_sub(costs.zero as u16))
 }
 
 // `total` less each lane.

@@ -1,8 +1,9 @@
 // The marks of the code, and how many a rate keeps.
-ghost use Rattle.std.specs.Prelude.{◌≡◌, ◌^◌, ◌≤◌};
+ghost use Rattle.std.specs.Prelude.{◌≡◌, ℕ, ◌%◌, ◌^◌, ◌<◌, ◌≤◌, List, [], ◌∷◌, ◌++◌, length, take};
 ghost use Rattle.convolution.specs.Code.{mark, marks_before};
 
 use crate::rate::Rate;
+use std::marker::Model;
 
 // The mark of a window: 1 when it shares an odd number of ones with the generator.
 pub fn mark(generator: u8, window: u8) -> u8
@@ -23,5 +24,48 @@ impl Rate {
             Rate::ThreeQuarters => steps + (steps + 2) / 3,
             Rate::Third => 3 * steps,
         }
+    }
+}
+
+// The kept marks of up to eight steps, in their order.
+#[derive(Drop)]
+pub struct Marks {
+    buffer: [u8; 24],
+    count: usize,
+}
+
+impl Model for Marks {
+    ghost Value = { List ℕ };
+
+    ghost view = { λ m. take m.count m.buffer };
+
+    ghost invariant = { λ m. m.count ≤ 24 };
+}
+
+impl Marks {
+    // No marks.
+    pub fn new() -> Marks
+        ensures { result ≡ [] }
+    {
+        Marks {
+            buffer: [0; 24],
+            count: 0,
+        }
+    }
+
+    // Adds a mark if it is kept.
+    pub fn push(&mut self, mark: u16, kept: u16)
+        requires { length self.old < 24 }
+        ensures { self.new ≡ self.old ++ take (kept % 2) (mark % 2 ∷ []) }
+    {
+        self.buffer[self.count] = (mark % 2) as u8;
+        self.count += (kept % 2) as usize;
+    }
+
+    // The marks one after another.
+    pub fn as_slice(&self) -> &[u8]
+        ensures { result.now ≡ self.now }
+    {
+        &self.buffer[..self.count]
     }
 }

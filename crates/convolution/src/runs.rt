@@ -1,8 +1,9 @@
 // The marks of several steps at once.
-ghost use Rattle.std.specs.Prelude.{◌≡◌, ℕ, ◌+◌, ◌/◌, ◌%◌, ◌^◌, ◌<◌, ◌≤◌, [], ◌∷◌, ◌++◌, length, take};
+ghost use Rattle.std.specs.Prelude.{◌≡◌, ℕ, ◌+◌, ◌/◌, ◌%◌, ◌^◌, ◌<◌, ◌≤◌, ◌++◌, length, map};
 ghost use Rattle.convolution.specs.Code.{mark};
 ghost use Rattle.convolution.specs.Encoding.{KeptBits, MarkBits, picked};
 
+use crate::marks::Marks;
 use crate::rate::Rate;
 
 // The marks of one generator, those of the window from place i on in bit i.
@@ -19,49 +20,67 @@ fn sums(generator: u8, bits: u16) -> u16
     sum
 }
 
-// The marks of every generator of a rate, those of the window from place i on in bit i.
-pub fn mark_bits(rate: Rate, bits: u16) -> [u16; 3]
-    ensures { MarkBits rate bits result }
-{
-    match rate {
-        Rate::Half | Rate::TwoThirds | Rate::ThreeQuarters => {
-            [sums(0o171, bits), sums(0o133, bits), 0]
+// The marks of one generator in eight steps, those of step i in bit i, and which of them are kept.
+#[derive(Clone, Copy)]
+pub struct Row {
+    marks: u16,
+    kept: u16,
+}
+
+// A row of which no mark is kept.
+const NO_ROW: Row = Row { marks: 0, kept: 0 };
+
+impl Row {
+    // The marks of a generator, those of the window from place i on in bit i, and a pattern from a place on.
+    fn new(generator: u8, bits: u16, pattern: u16, phase: u8) -> Row
+        requires { (generator < 128) × (phase < 6) }
+        ensures marks { (i : ℕ) → result.marks / 2 ^ i % 2 ≡ mark generator (bits / 2 ^ i % 128) }
+        ensures kept { result.kept ≡ pattern / 2 ^ phase }
+    {
+        Row {
+            marks: sums(generator, bits),
+            kept: pattern >> phase,
         }
-        Rate::Third => [sums(0o133, bits), sums(0o145, bits), sums(0o177, bits)],
     }
 }
 
-// Which marks of every generator are kept in the eight steps from a place of the pattern on, those of step i in bit i.
-pub fn kept_bits(rate: Rate, phase: u8) -> [u16; 3]
+// The rows of a rate's generators from a place of the pattern on, the marks of step i those of the window from place i on.
+pub fn rows(rate: Rate, bits: u16, phase: u8) -> [Row; 3]
     requires { phase < 6 }
-    ensures { KeptBits rate phase result }
+    ensures marks { MarkBits rate bits (map (λ r. r.marks) result) }
+    ensures kept { KeptBits rate phase (map (λ r. r.kept) result) }
 {
-    let [first, second, third]: [u16; 3] = match rate {
-        Rate::Half => [0xffff, 0xffff, 0],
-        Rate::TwoThirds => [0x5555, 0xffff, 0],
-        Rate::ThreeQuarters => [0xdb6d, 0xb6db, 0],
-        Rate::Third => [0xffff, 0xffff, 0xffff],
-    };
-    [first >> phase, second >> phase, third >> phase]
+    match rate {
+        Rate::Half => [
+            Row::new(0o171, bits, 0xffff, phase),
+            Row::new(0o133, bits, 0xffff, phase),
+            NO_ROW,
+        ],
+        Rate::TwoThirds => [
+            Row::new(0o171, bits, 0x5555, phase),
+            Row::new(0o133, bits, 0xffff, phase),
+            NO_ROW,
+        ],
+        Rate::ThreeQuarters => [
+            Row::new(0o171, bits, 0xdb6d, phase),
+            Row::new(0o133, bits, 0xb6db, phase),
+            NO_ROW,
+        ],
+        Rate::Third => [
+            Row::new(0o133, bits, 0xffff, phase),
+            Row::new(0o145, bits, 0xffff, phase),
+            Row::new(0o177, bits, 0xffff, phase),
+        ],
+    }
 }
 
-// Writes a mark, and answers the place after it if it is kept, or else its own.
-fn put(mark: u16, kept: u16, marks: &mut [u8], at: usize) -> usize
-    requires { at < length marks.old }
-    ensures written { take result marks.new ≡ take at marks.old ++ take (kept % 2) (mark % 2 ∷ []) }
-    ensures count { result ≤ at + 1 }
+// Adds the kept marks of step i.
+pub fn put_step(rows: [Row; 3], i: usize, marks: &mut Marks)
+    requires { (i < 8) × (length marks.old + 3 ≤ 24) }
+    ensures written { marks.new ≡ marks.old ++ picked (map (λ r. r.marks) rows) (map (λ r. r.kept) rows) i }
+    ensures count { length marks.new ≤ length marks.old + 3 }
 {
-    marks[at] = (mark % 2) as u8;
-    at + (kept % 2) as usize
-}
-
-// Writes the kept marks of step i, and answers the place after them.
-pub fn put_step(bits: [u16; 3], kept: [u16; 3], i: usize, marks: &mut [u8], at: usize) -> usize
-    requires { (i < 8) × (at + 3 ≤ length marks.old) }
-    ensures written { take result marks.new ≡ take at marks.old ++ picked bits kept i }
-    ensures count { result ≤ at + 3 }
-{
-    let first = put(bits[0] >> i, kept[0] >> i, marks, at);
-    let second = put(bits[1] >> i, kept[1] >> i, marks, first);
-    put(bits[2] >> i, kept[2] >> i, marks, second)
+    for row in rows {
+        marks.push(row.marks >> i, row.kept >> i);
+    }
 }

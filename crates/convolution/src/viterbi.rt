@@ -5,19 +5,14 @@ ghost use Rattle.convolution.specs.Slots.{Small, free, all_costs, generator_at, 
 ghost use Rattle.convolution.specs.Code.{bits};
 ghost use Rattle.convolution.specs.Trellis.{Tracks, back};
 
+use crate::costs::StepCosts;
 use crate::lanes;
+use crate::marks::mark;
 use crate::rate::Rate;
 use std::simd::prelude::*;
 
 // More than six steps can cost.
 const FAR: u16 = 2305;
-
-// The costs of one step: for each generator what the reading costs for mark 0 and for mark 1.
-#[derive(Clone, Copy)]
-pub struct StepCosts {
-    pub zero: [u8; 3],
-    pub one: [u8; 3],
-}
 
 // The marks of a rate's generators at the windows 2s below 64, as masks.
 #[derive(Clone, Copy)]
@@ -44,57 +39,53 @@ pub struct Metrics {
 fn masks(generator: u8) -> u16x32
     ensures { Masks generator result }
 {
-    let mut lanes = [0u16; 32];
-    for s in 0..32u8 {
-        lanes[s as usize] = 0xffff * ((2 * s & generator).count_ones() % 2) as u16;
-    }
-    u16x32::from_array(lanes)
+    u16x32::from_array(std::array::from_fn(|s| { 0xffff * mark(generator, 2 * s as u8) as u16 }))
 }
 
 // The generators of a rate.
-pub fn generators_of(rate: Rate) -> Generators
-    ensures { result.rate ≡ rate }
-{
-    match rate {
-        Rate::Half | Rate::TwoThirds | Rate::ThreeQuarters => Generators {
-            rate,
-            first: masks(0o171),
-            second: masks(0o133),
-            third: masks(0o177),
-        },
-        Rate::Third => Generators {
-            rate,
-            first: masks(0o133),
-            second: masks(0o145),
-            third: masks(0o177),
-        },
+impl From<Rate> for Generators {
+    ghost from_gives = { λ rate g. g.rate ≡ rate };
+
+    fn from(rate: Rate) -> Generators {
+        match rate {
+            Rate::Half | Rate::TwoThirds | Rate::ThreeQuarters => Generators {
+                rate,
+                first: masks(0o171),
+                second: masks(0o133),
+                third: masks(0o177),
+            },
+            Rate::Third => Generators {
+                rate,
+                first: masks(0o133),
+                second: masks(0o145),
+                third: masks(0o177),
+            },
+        }
     }
 }
 
 // The sum of all costs of a step.
 fn total(c: StepCosts) -> u16
-    requires { Small c }
     ensures { result ≡ all_costs c }
 {
-    (c.zero[0] as u16 + c.zero[1] as u16 + c.zero[2] as u16)
-        + (c.one[0] as u16 + c.one[1] as u16 + c.one[2] as u16)
+    let [first, second, third] = c.marks;
+    (first.zero as u16 + second.zero as u16 + third.zero as u16)
+        + (first.one as u16 + second.one as u16 + third.one as u16)
 }
 
 // What the windows 2s below 64 cost.
 fn price(generators: &Generators, c: StepCosts) -> u16x32
-    requires { Small c }
     ensures { (s : ℕ) → s < 32 → slice_index result s ≡ window_cost generators.now.rate c (2 * s) }
 {
-    let none = u16x32::splat(c.zero[0] as u16 + c.zero[1] as u16 + c.zero[2] as u16);
-    let first = lanes::swing(generators.first, c.zero[0], c.one[0]);
-    let second = lanes::swing(generators.second, c.zero[1], c.one[1]);
-    let third = lanes::swing(generators.third, c.zero[2], c.one[2]);
-    none + first + second + third
+    let [first, second, third] = c.marks;
+    let none = u16x32::splat(first.zero as u16 + second.zero as u16 + third.zero as u16);
+    none + lanes::swing(generators.first, first)
+        + lanes::swing(generators.second, second)
+        + lanes::swing(generators.third, third)
 }
 
 // What the windows 2s below 64 cost, and what they cost with the oldest or the newest bit turned.
 fn prices(generators: &Generators, c: StepCosts) -> (u16x32, u16x32)
-    requires { Small c }
     ensures { Turns (window_cost generators.now.rate c) result.0 result.1 }
 {
     let same = price(generators, c);
@@ -132,8 +123,8 @@ impl Metrics {
         ensures { Ran generators.now.rate costs.now (length costs.now) (self.old.low ++ self.old.high) (self.new.low ++ self.new.high) decisions.new }
     {
         let mut metrics = *self;
-        for t in 0..costs.len() {
-            let (next, d) = advance(metrics, generators, costs[t]);
+        for (t, c) in costs.iter().enumerate() {
+            let (next, d) = advance(metrics, generators, *c);
             metrics = next;
             decisions[t] = d;
         }

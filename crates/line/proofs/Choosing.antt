@@ -3,7 +3,7 @@ use Rattle.std.proofs.Common.{◌≡◌, ℕ, ◌*◌, List, ◌++◌, length, d
 use Rattle.std.proofs.lemmas.List.{get_or_append_left, get_or_past}
 use Rattle.std.proofs.lemmas.Bool.{cases_lt}
 use Rattle.convolution.specs.declared.rate.Rate.{Rate}
-use Rattle.convolution.specs.declared.viterbi.StepCosts.{StepCosts}
+use Rattle.convolution.specs.declared.costs.StepCosts.{StepCosts}
 use Rattle.convolution.specs.Code.{all_bits, marks}
 use Rattle.convolution.specs.Cost.{least}
 use Rattle.convolution.specs.Slots.{Priced, Ran}

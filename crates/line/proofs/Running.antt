@@ -1,6 +1,5 @@
 -- The encoder over the bytes of a body and the tail: where it stands, what it has sent, and that its marks fit.
-use Rattle.std.proofs.Common.{◌≡◌, ℕ, ◌+◌, ◌-◌, ◌*◌, ◌<◌, ◌≤◌, List, [], ◌++◌, length, get_or, take, sym, refl, ap, ◌∙◌, subst, arith}
-use native.Mathlib.Nat.{sub-zero}
+use Rattle.std.proofs.Common.{◌≡◌, ℕ, ◌+◌, ◌*◌, ◌<◌, ◌≤◌, List, [], ◌++◌, length, get_or, take, sym, refl, ap, ◌∙◌, subst, arith}
 use Rattle.std.proofs.lemmas.List.{length-append, length-take-le, take_more, take_all, get_or-append-add}
 use Rattle.convolution.specs.declared.encoder.Encoder.{Encoder}
 use Rattle.convolution.specs.declared.rate.Rate.{Rate}
@@ -24,52 +23,43 @@ pub sent-front_none : (rate : Rate) (body : List ℕ) → sent rate (front body 
 unfolding all_bits
 sent-front_none rate body = sent_none rate
 
-module _ {rate : Rate} {w m : Word} {e : Encoder} {n : ℕ} {out : List ℕ} (r : Ran rate w m e n out) (h : n ≤ length out) where
+module _ {rate : Rate} {w m : Word} {e : Encoder} {out : List ℕ} (r : Ran rate w m e out) where
   -- the marks of a run are within those of all steps
-  pub run_room : (steps size : ℕ) → length w + length m ≤ steps → marks_before rate steps ≤ size → length (sent rate w) + n ≤ size
+  pub run_room : (steps size : ℕ) → length w + length m ≤ steps → marks_before rate steps ≤ size → length (sent rate w) + length out ≤ size
   run_room steps size l room =
-      omega (arith, length-sent rate w, ran_count r h, marks_before_mono rate (length (w ++ m)) steps (omega (arith, length-append w m)))
+      omega (arith, length-sent rate w, ran_count r, marks_before_mono rate (length (w ++ m)) steps (omega (arith, length-append w m)))
 
   -- and are 0 or 1
-  pub run_small : (k : ℕ) → get_or (take (n - 0) out) k 0 < 2
+  pub run_small : (k : ℕ) → get_or out k 0 < 2
   unfolding sent
   run_small k =
-      let e : get_or (sent rate (w ++ m)) (length (sent rate w) + k) 0 ≡ get_or (take (n - 0) out) k 0 =
-      ap (λ (l : List ℕ). get_or l (length (sent rate w) + k) 0) r.written ∙ get_or-append-add (sent rate w) (take n out) k 0 ∙ ap (λ (j : ℕ). get_or (take j out) k 0) (sym (sub-zero n)) in
+      let e : get_or (sent rate (w ++ m)) (length (sent rate w) + k) 0 ≡ get_or out k 0 =
+      ap (λ (l : List ℕ). get_or l (length (sent rate w) + k) 0) r.written ∙ get_or-append-add (sent rate w) out k 0 in
       omega (arith, marks_to_small rate (w ++ m) (length (w ++ m)) (length (sent rate w) + k))
-
-  -- and as many as it says
-  pub run_length : length (take (n - 0) out) ≡ n
-  run_length = ap (λ (k : ℕ). length (take k out)) (sub-zero n) ∙ length-take-le n out h
 
 -- the encoder before the first byte
 pub after_none : {rate : Rate} {e : Encoder} (body : List ℕ) → After rate [] e → After e.rate (front body 0) e
 unfolding all_bits
 after_none body a = record { same = refl; held = a.held; turned = a.turned }
 
-module _ {rate : Rate} {e : Encoder} {n : ℕ} {out : List ℕ} (body : List ℕ) (k : ℕ) where
+module _ {rate : Rate} {e : Encoder} {out : List ℕ} (body : List ℕ) (k : ℕ) where
   -- one byte more
-  pub after_more : k < length body → Ran rate (front body k) (bits (get_or body k 0)) e n out → After rate (front body (k + 1)) e
+  pub after_more : k < length body → Ran rate (front body k) (bits (get_or body k 0)) e out → After rate (front body (k + 1)) e
   after_more h r = subst (λ (w : Word). After rate w e) (sym (ap all_bits (take_more body k 0 h) ∙ all_bits_push (take k body) (get_or body k 0))) r.after
 
-  pub sent_more : k < length body → Ran rate (front body k) (bits (get_or body k 0)) e n out → sent rate (front body k) ++ take (n - 0) out ≡ sent rate (front body (k + 1))
-  sent_more h r =
-      ap (λ (j : ℕ). sent rate (front body k) ++ take j out) (sub-zero n) ∙ sent_byte rate body k 0 (sent rate (front body k)) (take n out) h refl r.written
+  pub sent_more : k < length body → Ran rate (front body k) (bits (get_or body k 0)) e out → sent rate (front body k) ++ out ≡ sent rate (front body (k + 1))
+  sent_more h r = sent_byte rate body k 0 (sent rate (front body k)) out h refl r.written
 
-  pub byte_length : k < length body → n ≤ length out → Ran rate (front body k) (bits (get_or body k 0)) e n out → length (sent rate (front body k)) + n ≡ length (sent rate (front body (k + 1)))
-  byte_length h l r = omega (arith, run_length r l, length-append (sent rate (front body k)) (take (n - 0) out), ap length (sent_more h r))
+  pub byte_length : k < length body → Ran rate (front body k) (bits (get_or body k 0)) e out → length (sent rate (front body k)) + length out ≡ length (sent rate (front body (k + 1)))
+  byte_length h r = omega (arith, length-append (sent rate (front body k)) out, ap length (sent_more h r))
 
-  pub byte_room : (size : ℕ) → k < length body → n ≤ length out → marks_before rate (8 * length body + 6) ≤ size → Ran rate (front body k) (bits (get_or body k 0)) e n out
-      → length (sent rate (front body k)) + length (take (n - 0) out) ≤ size
+  pub byte_room : (size : ℕ) → k < length body → marks_before rate (8 * length body + 6) ≤ size → Ran rate (front body k) (bits (get_or body k 0)) e out → length (sent rate (front body k)) + length out ≤ size
   unfolding bits
-  byte_room size h l room r = omega (arith, run_length r l, run_room r l (8 * length body + 6) size (omega (arith, length_front body k (omega arith))) room)
+  byte_room size h room r = run_room r (8 * length body + 6) size (omega (arith, length_front body k (omega arith))) room
 
   -- the tail after the last byte
-  pub tail_room : (size : ℕ) → k ≤ length body → n ≤ length out → marks_before rate (8 * length body + 6) ≤ size → Ran rate (front body k) (zeros 6) e n out
-      → length (sent rate (front body k)) + length (take (n - 0) out) ≤ size
-  tail_room size h l room r = omega (arith, run_length r l, run_room r l (8 * length body + 6) size (omega (arith, length_front body k h)) room)
+  pub tail_room : (size : ℕ) → k ≤ length body → marks_before rate (8 * length body + 6) ≤ size → Ran rate (front body k) (zeros 6) e out → length (sent rate (front body k)) + length out ≤ size
+  tail_room size h room r = run_room r (8 * length body + 6) size (omega (arith, length_front body k h)) room
 
-  pub sent_last : length body ≤ k → Ran rate (front body k) (zeros 6) e n out → sent rate (front body k) ++ take (n - 0) out ≡ marks rate (all_bits body)
-  sent_last h r =
-      ap (λ (j : ℕ). sent rate (front body k) ++ take j out) (sub-zero n) ∙ sent_tail rate (front body k) (sent rate (front body k)) (take n out) refl r.written
-      ∙ ap (marks rate) (front_all body k h)
+  pub sent_last : length body ≤ k → Ran rate (front body k) (zeros 6) e out → sent rate (front body k) ++ out ≡ marks rate (all_bits body)
+  sent_last h r = sent_tail rate (front body k) (sent rate (front body k)) out refl r.written ∙ ap (marks rate) (front_all body k h)

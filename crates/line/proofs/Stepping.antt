@@ -5,7 +5,8 @@ use Rattle.std.proofs.lemmas.Bool.{cases_lt}
 use Rattle.convolution.specs.declared.rate.Rate.{Rate}
 use Rattle.convolution.specs.declared.rate.Rate.TheVariants.{Half, TwoThirds, ThreeQuarters, Third}
 use Rattle.convolution.specs.Code.{bit, generators, keeps, kept_from, step_marks, marks_before}
-use Rattle.convolution.specs.Slots.{Prices, Small, kept_before, slot}
+use Rattle.convolution.specs.declared.costs.StepCosts.{StepCosts}
+use Rattle.convolution.specs.Slots.{Prices, Small, costs_of, kept_before, slot}
 
 -- whether a rate has generator g and keeps its mark at step t
 abbrev pub has : Rate → ℕ → ℕ → Bool
@@ -71,6 +72,10 @@ has_second TwoThirds t = refl
 has_second ThreeQuarters t = refl
 has_second Third t = refl
 
+-- a step's costs
+abbrev pub three : ℕ → ℕ → ℕ → ℕ → ℕ → ℕ → StepCosts
+three z0 o0 z1 o1 z2 o2 = record { marks = record { zero = z0; one = o0 } ∷ record { zero = z1; one = o1 } ∷ record { zero = z2; one = o2 } ∷ [] }
+
 -- slots one after another: each that is there takes one reading
 module _ (rate : Rate) (price : ℕ → ℕ → ℕ) (t i : ℕ) (at : i ≡ marks_before rate t) (a b c : Bool) (p : a ≡ has rate t 0) (q : b ≡ has rate t 1) (r : c ≡ has rate t 2) where
   slot_first : (m x : ℕ) → x ≡ cond a (price i m) 0 → x ≡ slot rate price t 0 m
@@ -92,19 +97,19 @@ module _ (rate : Rate) (price : ℕ → ℕ → ℕ) (t i : ℕ) (at : i ≡ mar
   slot_third m x e = e ∙ (λ j. cond (r j) (price (third_at j) m) 0)
 
   pub step_priced : (z0 z1 z2 o0 o1 o2 j k : ℕ) → j ≡ i + bit a → k ≡ j + bit b → z0 ≡ cond a (price i 0) 0 → z1 ≡ cond b (price j 0) 0 → z2 ≡ cond c (price k 0) 0 → o0 ≡ cond a (price i 1) 0
-      → o1 ≡ cond b (price j 1) 0 → o2 ≡ cond c (price k 1) 0 → Prices rate price t (record { zero = z0 ∷ z1 ∷ z2 ∷ []; one = o0 ∷ o1 ∷ o2 ∷ [] })
+      → o1 ≡ cond b (price j 1) 0 → o2 ≡ cond c (price k 1) 0 → Prices rate price t (three z0 o0 z1 o1 z2 o2)
   step_priced z0 z1 z2 o0 o1 o2 j k ej ek e0 e1 e2 f0 f1 f2 = record { zeros = zs; ones = os }
     where
       third : k ≡ i + bit a + bit b
       third = ek ∙ ap (λ n. n + bit b) ej
 
-      zs : (g : ℕ) → g < 3 → get_or (z0 ∷ z1 ∷ z2 ∷ []) g 0 ≡ slot rate price t g 0
+      zs : (g : ℕ) → g < 3 → (costs_of (three z0 o0 z1 o1 z2 o2) g).zero ≡ slot rate price t g 0
       zs zero l = slot_first 0 z0 e0
       zs (suc zero) l = slot_second 0 z1 (e1 ∙ ap (λ n. cond b (price n 0) 0) ej)
       zs (suc (suc zero)) l = slot_third 0 z2 (e2 ∙ ap (λ n. cond c (price n 0) 0) third)
       zs (suc (suc (suc g))) l = absurd (omega arith)
 
-      os : (g : ℕ) → g < 3 → get_or (o0 ∷ o1 ∷ o2 ∷ []) g 0 ≡ slot rate price t g 1
+      os : (g : ℕ) → g < 3 → (costs_of (three z0 o0 z1 o1 z2 o2) g).one ≡ slot rate price t g 1
       os zero l = slot_first 1 o0 f0
       os (suc zero) l = slot_second 1 o1 (f1 ∙ ap (λ n. cond b (price n 1) 0) ej)
       os (suc (suc zero)) l = slot_third 1 o2 (f2 ∙ ap (λ n. cond c (price n 1) 0) third)
@@ -116,14 +121,20 @@ module _ (rate : Rate) (price : ℕ → ℕ → ℕ) (t i : ℕ) (at : i ≡ mar
   pub step_end : (j k l : ℕ) → j ≡ i + bit a → k ≡ j + bit b → l ≡ k + bit c → l ≡ marks_before rate (t + 1)
   step_end j k l ej ek el = omega (arith, step_count rate t, ap bit p, ap bit q, ap bit r)
 
-each_small : (x y z : ℕ) → x ≤ 128 → y ≤ 128 → z ≤ 128 → (g : ℕ) → g < 3 → get_or (x ∷ y ∷ z ∷ []) g 0 ≤ 128
-each_small x y z p q r zero h = p
-each_small x y z p q r (suc zero) h = q
-each_small x y z p q r (suc (suc zero)) h = r
-each_small x y z p q r (suc (suc (suc g))) h = absurd (omega arith)
+pub step_small : (z0 z1 z2 o0 o1 o2 : ℕ) → (z0 ≤ 128) × (o0 ≤ 128) → (z1 ≤ 128) × (o1 ≤ 128) → (z2 ≤ 128) × (o2 ≤ 128) → Small (three z0 o0 z1 o1 z2 o2)
+step_small z0 z1 z2 o0 o1 o2 p q r = record { zeros = zs; ones = os }
+  where
+    zs : (g : ℕ) → g < 3 → (costs_of (three z0 o0 z1 o1 z2 o2) g).zero ≤ 128
+    zs zero h = p.0
+    zs (suc zero) h = q.0
+    zs (suc (suc zero)) h = r.0
+    zs (suc (suc (suc g))) h = absurd (omega arith)
 
-pub step_small : (z0 z1 z2 o0 o1 o2 : ℕ) → (z0 ≤ 128) × (o0 ≤ 128) → (z1 ≤ 128) × (o1 ≤ 128) → (z2 ≤ 128) × (o2 ≤ 128) → Small (record { zero = z0 ∷ z1 ∷ z2 ∷ []; one = o0 ∷ o1 ∷ o2 ∷ [] })
-step_small z0 z1 z2 o0 o1 o2 p q r = record { zeros = each_small z0 z1 z2 p.0 q.0 r.0; ones = each_small o0 o1 o2 p.1 q.1 r.1 }
+    os : (g : ℕ) → g < 3 → (costs_of (three z0 o0 z1 o1 z2 o2) g).one ≤ 128
+    os zero h = p.1
+    os (suc zero) h = q.1
+    os (suc (suc zero)) h = r.1
+    os (suc (suc (suc g))) h = absurd (omega arith)
 
 -- what holds of the first k elements and of a new one holds of the first k + 1
 pub each_set : {T : Type 0} (P : ℕ → T → Type 0) (xs : List T) (k : ℕ) (x d : T) → k < length xs → ((j : ℕ) → j < k → P j (get_or xs j d)) → P k x → (j : ℕ) → j < k + 1 → P j (get_or (set xs k x) j d)

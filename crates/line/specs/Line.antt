@@ -5,6 +5,7 @@ use Rattle.convolution.specs.Code.{Word, bit, all_bits, marks}
 use Rattle.convolution.specs.Cost.{least, step_cost}
 use Rattle.convolution.specs.Trellis.{Tracks, Chose}
 use Rattle.permutation.specs.Arrange.{arranged, restored}
+use Rattle.readings.specs.declared.helical.Helical.{Helical}
 use Rattle.readings.specs.Helix.{helix}
 use Rattle.stack.specs.Buffers.{padded}
 use Rattle.stack.specs.Meaning.{Received, CarrierMeaning}
@@ -42,6 +43,14 @@ block rate a b x = spread a b (marks rate (all_bits x))
 -- the prices of readings of a block: reading i is that of mark i
 abbrev pub prices : {R : Type 0} → (R → ℕ → ℕ) → ℕ → ℕ → List R → ℕ → ℕ → ℕ
 prices cost a b rs = price_of cost (restored (helix a b) rs)
+
+-- how many symbols a block has by a helical rule
+abbrev pub block_size : Helical → ℕ
+block_size rule = rule.a * rule.b
+
+-- the prices of readings of a block by a helical rule
+abbrev pub rule_prices : {R : Type 0} → (R → ℕ → ℕ) → Helical → List R → ℕ → ℕ → ℕ
+rule_prices cost rule rs = prices cost rule.a rule.b rs
 
 -- what prices give for a body of m bytes: the data bits of least cost, and how many of their marks were read at a cost
 unfoldable pub chosen : Rate → ℕ → (ℕ → ℕ → ℕ) → Received

@@ -4,7 +4,7 @@ ghost use Rattle.convolution.specs.Code.{marks_before};
 ghost use Rattle.line.specs.Line.{lining};
 ghost use Rattle.line.specs.Lined.{lining_rule};
 
-use crate::reading::read_body;
+use crate::reading::Received;
 use crate::sending::put_body;
 use convolution::rate::Rate;
 use readings::helical::Helical;
@@ -100,13 +100,12 @@ impl<R: Reading> Carrier for Line<R> {
         clear(first);
         clear(second);
         let count = self.step_need();
-        let symbols = read_body(
-            self.rate,
-            self.helical,
+        let received = Received {
+            rate: self.rate,
+            rule: self.helical,
             readings,
-            &mut steps[0..count],
-            &mut first[0..self.length],
-        );
+        };
+        let symbols = received.read_body(&mut steps[0..count], &mut first[0..self.length]);
         clear_steps(steps);
         Ok(Corrections { symbols, bytes: 0 })
     }

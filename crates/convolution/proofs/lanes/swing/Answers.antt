@@ -9,8 +9,8 @@ use Rattle.convolution.proofs.lanes.swing.Goals as goal
 
 pub returns : goal.returns
 returns c =
-    let z = c.args.zero in
-    let o = c.args.one in
+    let z = c.args.costs.zero in
+    let o = c.args.costs.one in
     let mask = c.args.mask in
     let k : ℕ = (o + (65536 - z)) % 65536 in
     let lm = c.fits-mask.0 in
@@ -20,5 +20,5 @@ returns c =
       each = λ m s h is.
           let e = get_or-zip2 bit_and mask (replicate 32 k) s 0 0 0 (omega arith) (omega arith)
           ∙ ap (bit_and (get_or mask s 0)) (get_or-replicate 32 s k 0 h) ∙ ap (λ v. bit_and v k) (is s h) in
-          ap (λ v. (v + z) % 65536) e ∙ masked_swing (mark m (2 * s)) z o (omega arith) (omega (arith, c.ranges.zero.fits)) (omega (arith, c.ranges.one.fits));
+          ap (λ v. (v + z) % 65536) e ∙ masked_swing (mark m (2 * s)) z o (omega arith) (omega arith) (omega arith);
     }

@@ -5,5 +5,5 @@ use Rattle.line.specs.Line.{spread}
 use Rattle.line.proofs.Running.{front}
 use Rattle.line.proofs.sending.put_body.Given as goal
 
-abbrev pub invariant-loop-i : goal.invariant-loop-i
-invariant-loop-i l = After l.initial.encoder.rate (front l.body l.i) l.encoder × (l.at ≡ length (sent l.initial.encoder.rate (front l.body l.i))) × (l.symbols ≡ spread l.rule.a l.rule.b (sent l.initial.encoder.rate (front l.body l.i))) × (length l.marks ≡ 24)
+abbrev pub invariant-loop-byte : goal.invariant-loop-byte
+invariant-loop-byte l = After l.initial.encoder.rate (front l.body l.byte-index) l.encoder × (l.at ≡ length (sent l.initial.encoder.rate (front l.body l.byte-index))) × (l.symbols ≡ spread l.rule.a l.rule.b (sent l.initial.encoder.rate (front l.body l.byte-index)))

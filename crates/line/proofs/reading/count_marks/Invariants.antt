@@ -1,7 +1,0 @@
--- How many of the marks so far cost more than 0.
-use Rattle.std.proofs.Common.{◌≡◌, ◌≤◌, take}
-use Rattle.line.specs.Line.{dear, prices}
-use Rattle.line.proofs.reading.count_marks.Given as goal
-
-abbrev pub invariant-loop-k : goal.invariant-loop-k
-invariant-loop-k g l = (l.count ≤ l.k) × (l.count ≡ dear (prices g.R.Reading.cost l.rule.a l.rule.b l.readings) l.i (take l.k l.marks))

@@ -5,7 +5,7 @@ ghost use Rattle.limits.specs.Limits.{code_limits, stage_limits, carrier_limits,
 
 use crate::numbers::{PlanNumber, PlanNumbers};
 use convolution::rate::Rate;
-use stack::fault::Report;
+use stack::fault::{Report, Reported};
 
 // The rate of a number from 1 to 4.
 fn rate(number: usize) -> Result<Rate, PlanNumber>
@@ -139,11 +139,11 @@ impl Coded {
     }
 }
 
-impl PlanNumber {
-    // The refusal of a plan for this number: number 1, and its position among the eleven, from 1.
-    pub fn report(&self) -> Report
-        ensures { result ≡ plan_report self.now }
-    {
+// A plan is refused for one of its numbers by number 1, with its position among the eleven, from 1.
+impl Reported for PlanNumber {
+    ghost told = { plan_report };
+
+    fn report(&self) -> Report {
         let place = match *self {
             PlanNumber::Field => 1,
             PlanNumber::Root => 2,

@@ -41,9 +41,9 @@ randomiser_there p unit some = ap (λ (b : Bool). cond b [] (randomising p.seed 
 
 -- the code, and the interleaver of its words
 pub code_there : (p : PlanNumbers) (code set : ReedSolomon AnyField) (block : Interleaver) → set ≡ code → CodeOf p code.field code.root code.words code.length code.errors
-    → block.block.rows ≡ code.words → block.block.columns ≡ code.length + 2 * code.errors → code_meaning set ∷ interleaver_meaning block ∷ [] ≡ code_part p
+    → block.block.grid.rows ≡ code.words → block.block.grid.columns ≡ code.length + 2 * code.errors → code_meaning set ∷ interleaver_meaning block ∷ [] ≡ code_part p
 code_there p code set block same of rows columns =
-    let wide : block.block.columns ≡ word_length p = columns ∙ ap₂ (λ k e. k + 2 * e) of.length_is of.errors_is in
+    let wide : block.block.grid.columns ≡ word_length p = columns ∙ ap₂ (λ k e. k + 2 * e) of.length_is of.errors_is in
     ap (λ k. code_meaning k ∷ interleaver_meaning block ∷ []) same
     ∙ (λ i. coding (of.field_is i) (of.root_is i) (of.words_is i) (of.length_is i) (of.errors_is i) ∷ interleaving ((rows ∙ of.words_is) i) (wide i) ∷ [])
 

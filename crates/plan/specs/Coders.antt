@@ -28,7 +28,7 @@ abbrev pub code_meaning : ReedSolomon AnyField → StageMeaning
 code_meaning s = coding (chosen_field s.field) s.root s.words s.length s.errors
 
 abbrev pub interleaver_meaning : Interleaver → StageMeaning
-interleaver_meaning s = interleaving s.block.rows s.block.columns
+interleaver_meaning s = interleaving s.block.grid.rows s.block.grid.columns
 
 -- a stage that may be left out, as a list of stages
 abbrev pub stage_list : {S : Type 0} → (S → StageMeaning) → Option S → List StageMeaning

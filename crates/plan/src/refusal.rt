@@ -3,20 +3,19 @@ ghost use Rattle.std.specs.Prelude.{◌≡◌};
 ghost use Rattle.plan.specs.Refusals.{plan_reported, refused_by_plan};
 
 use limits::numbers::PlanNumber;
-use stack::fault::{Refusal, Report};
+use stack::fault::{Refusal, Report, Reported};
 
 // The readings are of the other carrier than the plan's, or the plan's stack refuses them.
-#[derive(Clone, Copy)]
+#[derive(Clone, Copy, Debug, PartialEq, Eq)]
 pub enum PlanRefusal {
     OtherCarrier,
     Stack(Refusal),
 }
 
-impl PlanRefusal {
-    // This refusal in numbers.
-    pub fn report(&self) -> Report
-        ensures { result ≡ plan_reported self.now }
-    {
+impl Reported for PlanRefusal {
+    ghost told = { plan_reported };
+
+    fn report(&self) -> Report {
         match *self {
             PlanRefusal::OtherCarrier => PlanNumber::Carrier.report(),
             PlanRefusal::Stack(refusal) => refusal.report(),

@@ -1,7 +1,6 @@
 // The coder of a plan: its stages, set on a carrier.
 ghost use Rattle.std.specs.Prelude.{◌≡◌, MatchResult};
 ghost use Rattle.galois.specs.Choice.{chosen_field};
-ghost use Rattle.stack.specs.Faults.{unstacked_report};
 ghost use Rattle.plan.specs.Coders.{check_meaning, randomiser_meaning, stage_list, CodeOf, coder_meaning, CoderFits, Coded, Unfitting};
 ghost use Rattle.plan.specs.Stacks.{field_of, check_part, randomiser_part};
 
@@ -10,9 +9,8 @@ use galois::chosen::AnyField;
 use reed_solomon::protect::protect;
 use reed_solomon::stage::ReedSolomon;
 use stack::carrier::Carrier;
-use stack::fault::Report;
 use stack::optional::Optional;
-use stack::stack::Stack;
+use stack::stack::{Stack, Unstacked};
 use stages::check::CheckByte;
 use stages::interleaver::Interleaver;
 use stages::randomiser::Randomiser;
@@ -25,25 +23,6 @@ pub type Coder<C> = Optional<
     CheckByte,
     Optional<Randomiser, Stack<ReedSolomon<AnyField>, Stack<Interleaver, C>>>,
 >;
-
-// A carrier on which the plan's stages cannot stand, as it was.
-#[derive(Drop)]
-pub struct Unfit<C> {
-    pub carrier: C,
-}
-
-impl<C> Unfit<C> {
-    // This refusal in numbers.
-    pub fn report(&self) -> Report
-        ensures { result ≡ unstacked_report }
-    {
-        Report {
-            number: 2,
-            depth: 0,
-            place: 0,
-        }
-    }
-}
 
 // The carrier at the foot of two stages.
 fn foot<C>(stack: Low<C>) -> C
@@ -106,31 +85,33 @@ impl Plan {
         code
     }
 
+    // The plan and a carrier on which its stages cannot stand, as they were.
+    fn back<C>(&self, carrier: C) -> Unstacked<Plan, C>
+        ensures { (result.stage ≡ self.now) × (result.carrier ≡ carrier) }
+    {
+        Unstacked {
+            stage: *self,
+            carrier,
+        }
+    }
+
     // Sets the plan's stages on a carrier; hands it back where its body is of another length than the plan's words, or the stack would be more than 32 high.
-    pub fn on<C: Carrier>(&self, carrier: C) -> Result<Coder<C>, Unfit<C>>
-        ensures { MatchResult result (λ s. (s.carrier.carrier.carrier.carrier ≡ carrier) × Coded self.now.numbers self.now.unit (C.Carrier.fits carrier) (C.Carrier.meaning carrier) (coder_meaning s.stage s.carrier.stage s.carrier.carrier.stage s.carrier.carrier.carrier.stage (C.Carrier.meaning s.carrier.carrier.carrier.carrier)) (CoderFits (C.Carrier.fits s.carrier.carrier.carrier.carrier) s.stage s.carrier.stage s.carrier.carrier.stage s.carrier.carrier.carrier.stage (C.Carrier.meaning s.carrier.carrier.carrier.carrier))) (λ u. (u.carrier ≡ carrier) × (C.Carrier.fits carrier → Unfitting self.now.numbers self.now.unit (C.Carrier.meaning carrier))) }
+    pub fn on<C: Carrier>(&self, carrier: C) -> Result<Coder<C>, Unstacked<Plan, C>>
+        ensures { MatchResult result (λ s. (s.carrier.carrier.carrier.carrier ≡ carrier) × Coded self.now.numbers self.now.unit (C.Carrier.fits carrier) (C.Carrier.meaning carrier) (coder_meaning s.stage s.carrier.stage s.carrier.carrier.stage s.carrier.carrier.carrier.stage (C.Carrier.meaning s.carrier.carrier.carrier.carrier)) (CoderFits (C.Carrier.fits s.carrier.carrier.carrier.carrier) s.stage s.carrier.stage s.carrier.carrier.stage s.carrier.carrier.carrier.stage (C.Carrier.meaning s.carrier.carrier.carrier.carrier))) (λ u. (u.stage ≡ self.now) × (u.carrier ≡ carrier) × (C.Carrier.fits carrier → Unfitting self.now.numbers self.now.unit (C.Carrier.meaning carrier))) }
     {
         let low = match protect(self.code(), carrier) {
             Ok(low) => low,
-            Err(apart) => {
-                return Err(Unfit {
-                    carrier: apart.carrier,
-                });
-            }
+            Err(apart) => return Err(self.back(apart.carrier)),
         };
         let middle = match Optional::new(self.randomiser(), low) {
             Ok(middle) => middle,
-            Err(apart) => {
-                return Err(Unfit {
-                    carrier: foot(apart.carrier),
-                });
-            }
+            Err(apart) => return Err(self.back(foot(apart.carrier))),
         };
         match Optional::new(self.check_byte(), middle) {
             Ok(coder) => Ok(coder),
             Err(apart) => {
                 let (_, low) = apart.carrier.into_parts();
-                Err(Unfit { carrier: foot(low) })
+                Err(self.back(foot(low)))
             }
         }
     }

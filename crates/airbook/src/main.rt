@@ -9,6 +9,7 @@ use book::entry::Entry;
 use book::run::run_book;
 use plan::listed::listed_plan;
 use stack::corrections::Corrections;
+use stack::fault::Reported;
 use std::io::Read;
 use std::process::ExitCode;
 
@@ -63,11 +64,7 @@ fn print_entry(
     let counts = match entry.answer {
         Ok(counts) => counts,
         Err(fault) => {
-            let report = fault.report();
-            println!(rt;
-                "{} refused {} {} {}",
-                number, report.number, report.depth, report.place
-            )?;
+            println!(rt; "{} refused {}", number, fault.report())?;
             return Ok(());
         }
     };
@@ -78,10 +75,7 @@ fn print_entry(
     } else {
         hex_text::show(rt.alloc(), part)?
     };
-    println!(rt;
-        "{} ok {} {} {}",
-        number, counts.symbols, counts.bytes, text
-    )?;
+    println!(rt; "{number} ok {counts} {text}")?;
     Ok(())
 }
 
@@ -91,10 +85,7 @@ fn blank() -> Entry {
         line: EntryLine::default(),
         place: 0,
         size: 0,
-        answer: Ok(Corrections {
-            symbols: 0,
-            bytes: 0,
-        }),
+        answer: Ok(Corrections::default()),
     }
 }
 

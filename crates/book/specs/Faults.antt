@@ -1,6 +1,6 @@
 -- Each refusal of a book or of an entry in numbers.
 use Rattle.stack.specs.declared.fault.Report.{Report}
-use Rattle.stack.specs.Faults.{fault_number, fault_place}
+use Rattle.stack.specs.Faults.{fault_report}
 use Rattle.book.specs.declared.fault.BookFault.{BookFault}
 use Rattle.book.specs.declared.fault.BookFault.TheVariants.{Size, Width, Count, Start, Unlisted, Kind, Length, Buffers}
 use Rattle.book.specs.declared.fault.BookReport.{BookReport}
@@ -21,4 +21,4 @@ book_report Buffers = record { number = 3; entry = 0 }
 -- a refused entry
 abbrev pub entry_report : EntryFault → Report
 entry_report (Mark offset) = record { number = 17; depth = 0; place = offset }
-entry_report (Coding f) = record { number = fault_number f.fault; depth = f.depth; place = fault_place f.fault }
+entry_report (Coding f) = fault_report f

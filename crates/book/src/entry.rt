@@ -4,7 +4,7 @@ use crate::fault::EntryFault;
 use stack::corrections::Corrections;
 
 // What the contents say of an entry, and what became of it.
-#[derive(Clone, Copy)]
+#[derive(Clone, Copy, Debug, PartialEq, Eq)]
 pub struct Entry {
     pub line: EntryLine,
     // Where its result begins in the result buffer.

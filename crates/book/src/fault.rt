@@ -2,7 +2,7 @@
 ghost use Rattle.std.specs.Prelude.{◌≡◌};
 ghost use Rattle.book.specs.Faults.{book_report, entry_report};
 
-use stack::fault::{CarrierFault, Report};
+use stack::fault::{CarrierFault, Report, Reported};
 use std::fmt;
 
 // Why a whole book is refused; entries are numbered from 1.
@@ -27,7 +27,7 @@ pub enum BookFault {
 }
 
 // Why one entry is refused.
-#[derive(Clone, Copy)]
+#[derive(Clone, Copy, Debug, PartialEq, Eq)]
 pub enum EntryFault {
     // A byte of a block of marks is neither 0, 1 nor 2, at this offset in the entry.
     Mark { offset: u32 },
@@ -67,22 +67,17 @@ impl BookFault {
     }
 }
 
-impl EntryFault {
-    // This refusal in numbers.
-    pub fn report(&self) -> Report
-        ensures { result ≡ entry_report self.now }
-    {
-        match *self {
+impl Reported for EntryFault {
+    ghost told = { entry_report };
+
+    fn report(&self) -> Report {
+        match self {
             EntryFault::Mark { offset } => Report {
                 number: 17,
                 depth: 0,
-                place: offset,
+                place: *offset,
             },
-            EntryFault::Coding(at) => Report {
-                number: at.fault.number(),
-                depth: at.depth,
-                place: at.fault.place(),
-            },
+            EntryFault::Coding(fault) => fault.report(),
         }
     }
 }

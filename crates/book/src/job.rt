@@ -3,7 +3,7 @@ use crate::contents::Kind;
 use plan::plan::Plan;
 
 // An entry whose plan is listed and whose kind and length are the plan's.
-#[derive(Clone, Copy)]
+#[derive(Clone, Copy, Debug, PartialEq, Eq)]
 pub struct Job {
     pub plan: Plan,
     pub kind: Kind,

@@ -20,23 +20,9 @@ use plan::plan::Plan;
 use plan::refusal::PlanRefusal;
 use readings::reading::Reading;
 use readings::sample::soft_of_sample;
-use stack::buffer::{clear, clear_steps, load};
+use stack::buffer::{clear, load};
 use stack::corrections::Corrections;
 use stack::fault::Refusal;
-
-// Sets every hard reading to absent.
-fn clear_hard(hard: &mut [Option<bool>])
-    ensures { hard.new ≡ replicate (length hard.old) None }
-{
-    hard.fill(None);
-}
-
-// Sets every soft reading to zero.
-fn clear_soft(soft: &mut [i8])
-    ensures { soft.new ≡ replicate (length soft.old) (pos 0) }
-{
-    soft.fill(0);
-}
 
 // Writes a body: its block is left in `part`, and the buffers are zero.
 fn write_body(plan: &Plan, body: &[u8], first: &mut [u8], second: &mut [u8], part: &mut [u8])
@@ -197,7 +183,7 @@ fn run_hard(
 {
     let n = bytes.len();
     let answer = read_hard(plan, bytes, first, second, steps, &mut hard[..n], part);
-    clear_hard(hard);
+    clear(hard);
     answer
 }
 
@@ -219,7 +205,7 @@ fn run_soft(
 {
     let n = plan.air_length();
     let answer = read_marks(plan, &soft[..n], first, second, steps, part);
-    clear_soft(soft);
+    clear(soft);
     answer
 }
 
@@ -242,10 +228,7 @@ fn run_job(
     match job.kind {
         Kind::Body => {
             write_body(plan, bytes, first, second, part);
-            Ok(Corrections {
-                symbols: 0,
-                bytes: 0,
-            })
+            Ok(Corrections::default())
         }
         Kind::Block => {
             if plan.is_bare() {
@@ -359,9 +342,9 @@ fn clear_all(
 {
     clear(first);
     clear(second);
-    clear_steps(steps);
-    clear_hard(hard);
-    clear_soft(soft);
+    clear(steps);
+    clear(hard);
+    clear(soft);
     clear(results);
 }
 

@@ -16,8 +16,8 @@ bare_made p s on e (Some b) made = (on, made ∙ e)
 
 pub line_made : {R : Type 0} {rate : Rate} {n : ℕ} (p : PlanNumbers) → Sound p → on_bare p ≡ false → rate ≡ rate_of p.rate → n ≡ coded_length p → (r : Option (Line R))
     → MatchOption r ((1 ≤ n) × (1 ≤ p.rows) × (1 ≤ p.columns) × (p.rows * p.columns ≤ 98304) × (marks_before rate (8 * n + 6) ≤ p.rows * p.columns) → ⊥)
-    (λ c. (c.rate ≡ rate) × (c.helical.a ≡ p.rows) × (c.helical.b ≡ p.columns) × (c.length ≡ n))
-    → MatchOption r (on_bare p ≡ true) (λ c. (on_bare p ≡ false) × (c.rate ≡ rate_of p.rate) × (c.helical.a ≡ p.rows) × (c.helical.b ≡ p.columns) × (c.length ≡ coded_length p))
+    (λ c. (c.rate ≡ rate) × (c.helical.grid.rows ≡ p.rows) × (c.helical.grid.columns ≡ p.columns) × (c.length ≡ n))
+    → MatchOption r (on_bare p ≡ true) (λ c. (on_bare p ≡ false) × (c.rate ≡ rate_of p.rate) × (c.helical.grid.rows ≡ p.rows) × (c.helical.grid.columns ≡ p.columns) × (c.length ≡ coded_length p))
 line_made {rate = rate} {n = n} p s off same e None made =
     let w = s.line off in
     let marks : marks_before rate (8 * n + 6) ≤ p.rows * p.columns = subst (λ m. m ≤ p.rows * p.columns) (ap₂ (λ q m. marks_before q (8 * m + 6)) (sym same) (sym e)) w.marks in

@@ -21,7 +21,7 @@ impl Plan {
 
     // The line of the plan, for readings of a kind, or none where it is on the bare carrier.
     pub fn line<R: Reading>(&self) -> Option<Line<R>>
-        ensures { MatchOption result (on_bare self.now.numbers ≡ true) (λ c. (on_bare self.now.numbers ≡ false) × (c.rate ≡ rate_of self.now.numbers.rate) × (c.helical.a ≡ self.now.numbers.rows) × (c.helical.b ≡ self.now.numbers.columns) × (c.length ≡ coded_length self.now.numbers)) }
+        ensures { MatchOption result (on_bare self.now.numbers ≡ true) (λ c. (on_bare self.now.numbers ≡ false) × (c.rate ≡ rate_of self.now.numbers.rate) × (c.helical.grid.rows ≡ self.now.numbers.rows) × (c.helical.grid.columns ≡ self.now.numbers.columns) × (c.length ≡ coded_length self.now.numbers)) }
     {
         if self.is_bare() {
             return None;

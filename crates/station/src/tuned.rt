@@ -65,16 +65,7 @@ impl Idle {
     {
         Tuned {
             number: self.number,
-            counts: Counts {
-                written: 0,
-                tried: 0,
-                given: 0,
-                refused: 0,
-                acknowledged: 0,
-                declined: 0,
-                symbols: 0,
-                bytes: 0,
-            },
+            counts: Counts::default(),
             carrier,
         }
     }
@@ -188,8 +179,7 @@ impl<C: Carrier> Tuned<C> {
     pub fn count(&self) -> Counts
         ensures { Step (C.Carrier.meaning self.now.carrier) self.now.number self.now.counts (Counted result) self.now.counts }
     {
-        let Tuned { counts, .. } = self;
-        *counts
+        self.counts
     }
 
     // Takes the station out of service, unless it owes answers.

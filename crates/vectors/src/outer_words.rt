@@ -25,7 +25,7 @@ const DAMAGED: [u8; 26] = [
 // The data are encoded to the word, and the damaged word is read as the data, five bytes corrected.
 #[test]
 fn qr_symbol(rt: HostRuntime) -> Result<(), Fail> {
-    let code = ReedSolomon::new(Field1, 0, 1, 16, 5).ok_or(Fail::new("numbers"))?;
+    let code = ReedSolomon::new(Field1, 0, 1, 16, 5).ok_or_else(|| Fail::new("numbers"))?;
     assert!(rt; code.upper() == 16 && code.lower() == 26);
     let mut from = BYTES;
     let mut to = [7u8; 26];

@@ -13,7 +13,7 @@ const DISPERSAL: [u8; 64] = [
 // The sequence on zeros.
 #[test]
 fn dispersal(rt: HostRuntime) -> Result<(), Fail> {
-    let randomiser = Randomiser::new(0x4a80, 64, 64).ok_or(Fail::new("numbers"))?;
+    let randomiser = Randomiser::new(0x4a80, 64, 64).ok_or_else(|| Fail::new("numbers"))?;
     assert!(rt; randomiser.upper() == 64 && randomiser.lower() == 64);
     let mut from = [0u8; 64];
     let mut to = [9u8; 64];
@@ -25,7 +25,7 @@ fn dispersal(rt: HostRuntime) -> Result<(), Fail> {
 // A unit of sixteen bytes starts the sequence four times.
 #[test]
 fn units(rt: HostRuntime) -> Result<(), Fail> {
-    let randomiser = Randomiser::new(0x4a80, 16, 64).ok_or(Fail::new("numbers"))?;
+    let randomiser = Randomiser::new(0x4a80, 16, 64).ok_or_else(|| Fail::new("numbers"))?;
     assert!(rt; randomiser.upper() == 64 && randomiser.lower() == 64);
     let mut from = [0u8; 64];
     let mut to = [0u8; 64];

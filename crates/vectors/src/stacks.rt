@@ -10,9 +10,9 @@ use std::test::Fail;
 // A marker on a check byte on the bare carrier: each part refuses at its own depth, and leaves its buffers zero.
 #[test]
 fn depths(rt: HostRuntime) -> Result<(), Fail> {
-    let bare = Bare::new(5).ok_or(Fail::new("bare"))?;
-    let check_stage = CheckByte::new(4).ok_or(Fail::new("check"))?;
-    let marker = Marker::new(3).ok_or(Fail::new("marker"))?;
+    let bare = Bare::new(5).ok_or_else(|| Fail::new("bare"))?;
+    let check_stage = CheckByte::new(4).ok_or_else(|| Fail::new("check"))?;
+    let marker = Marker::new(3).ok_or_else(|| Fail::new("marker"))?;
     let low = Stack::new(check_stage, bare).map_err(|_| Fail::new("check on bare"))?;
     let stack = Stack::new(marker, low).map_err(|_| Fail::new("marker on check"))?;
     assert_eq!(rt; stack.height(), 3);
@@ -38,7 +38,7 @@ fn depths(rt: HostRuntime) -> Result<(), Fail> {
 // What was lent is judged before anything else: buffers first, then the list.
 #[test]
 fn misfits(rt: HostRuntime) -> Result<(), Fail> {
-    let carrier = Erasing::new(3).ok_or(Fail::new("carrier"))?;
+    let carrier = Erasing::new(3).ok_or_else(|| Fail::new("carrier"))?;
     let mut a = [1u8, 2, 3];
     let mut b = [7u8; 2];
     let mut t = [3u64; 1];
@@ -60,8 +60,8 @@ fn misfits(rt: HostRuntime) -> Result<(), Fail> {
 // A stage that does not meet its carrier is handed back.
 #[test]
 fn unstacked(rt: HostRuntime) -> Result<(), Fail> {
-    let bare = Bare::new(5).ok_or(Fail::new("bare"))?;
-    let marker = Marker::new(3).ok_or(Fail::new("marker"))?;
+    let bare = Bare::new(5).ok_or_else(|| Fail::new("bare"))?;
+    let marker = Marker::new(3).ok_or_else(|| Fail::new("marker"))?;
     let Err(parts) = Stack::new(marker, bare) else {
         return Err(Fail::new("not refused"));
     };

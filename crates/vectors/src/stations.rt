@@ -23,7 +23,7 @@ fn take(station: &mut Tuned<Erasing>, readings: &[Option<u8>]) -> Result<u32, Re
 // Reads that are refused late count as tried, reads that are refused early do not.
 #[test]
 fn service(rt: HostRuntime) -> Result<(), Fail> {
-    let carrier = Erasing::new(2).ok_or(Fail::new("carrier"))?;
+    let carrier = Erasing::new(2).ok_or_else(|| Fail::new("carrier"))?;
     let mut station = Idle::new(7).tune(carrier);
     let mut a = [1u8, 2];
     let mut b = [7u8; 2];

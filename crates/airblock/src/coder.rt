@@ -48,14 +48,7 @@ pub fn coder_for(length: usize) -> Option<Coder>
     let randomiser = Randomiser::new(SEED, coded, coded)?;
     let code = ReedSolomon::new(Field1, ROOT, words, coded / words, ERRORS)?;
     let bare = Bare::new(code.lower())?;
-    let Ok(low) = protect(code, bare) else {
-        return None;
-    };
-    let Ok(middle) = Stack::new(randomiser, low) else {
-        return None;
-    };
-    let Ok(coder) = Stack::new(check, middle) else {
-        return None;
-    };
-    Some(coder)
+    let low = protect(code, bare).ok()?;
+    let middle = Stack::new(randomiser, low).ok()?;
+    Stack::new(check, middle).ok()
 }

@@ -4,7 +4,7 @@
 mod coder;
 mod loopback;
 
-use anyhow::anyhow;
+use anyhow::Context;
 use coder::{Coder, ERRORS, coder_for, words_for};
 use loopback::loopback;
 use stack::buffer::load;
@@ -31,16 +31,14 @@ fn print_outcome(
     match outcome {
         Ok(counts) => {
             let body = hex_text::show(rt.alloc(), buffer.get(0..length).unwrap_or(buffer))?;
-            let symbols = counts.symbols;
-            let bytes = counts.bytes;
-            println!(rt; "{label} ok {symbols} {bytes} {body}")?;
+            println!(rt; "{label} ok {} {} {body}", counts.symbols, counts.bytes)?;
         }
         Err(refusal) => {
             let report = refusal.report();
-            let number = report.number;
-            let depth = report.depth;
-            let place = report.place;
-            println!(rt; "{label} refused {number} {depth} {place}")?;
+            println!(rt;
+                "{label} refused {} {} {}",
+                report.number, report.depth, report.place
+            )?;
         }
     }
     Ok(())
@@ -78,11 +76,9 @@ fn run(rt: &HostRuntime) -> anyhow::Result<()> {
     let heap = rt.alloc();
     let body = read_body(rt)?;
     let length = body.len();
-    let Some(coder) = coder_for(length) else {
-        return Err(anyhow!(
-            "the body, with its check byte, does not divide into at most 16 words of at most 249 bytes"
-        ));
-    };
+    let coder = coder_for(length).context(
+        "the body, with its check byte, does not divide into at most 16 words of at most 249 bytes",
+    )?;
     let air = coder.air_length();
     let words = words_for(length.saturating_add(1));
     println!(rt;

@@ -1,7 +1,7 @@
 // The memory that a station's calls are lent, and the body that is sent.
 ghost use Rattle.std.specs.Prelude.{◌≡◌, ◌%◌};
 
-use crate::sample::{Noise, Sample};
+use crate::sample::Sample;
 use stack::carrier::Carrier;
 use std::alloc::{AllocError, Global};
 
@@ -38,6 +38,21 @@ impl<R: Sample> Desk<R> {
         })
     }
 
+    // Hears the symbols that were sent, wrong at the places of which `is_wrong` says so.
+    pub fn hear<F: Fn(usize) -> bool>(&mut self, is_wrong: F)
+        requires { F.IsAlwaysCallable is_wrong }
+    {
+        for (place, (symbol, reading)) in self.symbols.iter().zip(&mut self.readings).enumerate() {
+            *reading = if is_wrong(place) {
+                R::wrong(*symbol)
+            } else {
+                R::clean(*symbol)
+            };
+        }
+    }
+}
+
+impl<R> Desk<R> {
     // Lays the body out in the first buffer.
     pub fn lay(&mut self) {
         for (place, byte) in self.first.iter_mut().enumerate() {
@@ -47,16 +62,10 @@ impl<R: Sample> Desk<R> {
 
     // Whether the first buffer begins with that body.
     pub fn is_back(&self) -> bool {
-        for (place, byte) in self.first.iter().take(self.body).enumerate() {
-            if *byte != body_byte(place) {
-                return false;
-            }
-        }
-        true
-    }
-
-    // Hears the symbols that were sent.
-    pub fn hear(&mut self, noise: Noise) {
-        noise.hear(&self.symbols, &mut self.readings);
+        self.first
+            .iter()
+            .take(self.body)
+            .enumerate()
+            .all(|(place, byte)| *byte == body_byte(place))
     }
 }

@@ -6,18 +6,19 @@ mod print;
 mod sample;
 mod service;
 
-use anyhow::anyhow;
+use anyhow::Context;
 use desk::Desk;
 use line::line::Line;
 use plan::listed::listed_plan;
 use plan::plan::coder::Coder;
 use print::{print_counts, print_read, print_refused, print_write};
-use sample::{Noise, Sample};
+use sample::Sample;
 use service::{Verdict, leave_early, take, take_astray};
 use stack::bare::Bare;
 use stack::carrier::Carrier;
 use station::idle::Idle;
 use station::tuned::Tuned;
+use std::mem;
 
 // The listed plans of the two links.
 const REVERSE_LINK: u8 = 38;
@@ -26,23 +27,15 @@ const UPLINK: u8 = 2;
 
 // The coder of the LDACS reverse link, for soft readings.
 fn reverse_link() -> Option<Coder<Line<i8>>> {
-    let Some(plan) = listed_plan(REVERSE_LINK) else {
-        return None;
-    };
-    let Some(line) = plan.line::<i8>() else {
-        return None;
-    };
+    let plan = listed_plan(REVERSE_LINK)?;
+    let line = plan.line::<i8>()?;
     plan.on(line).ok()
 }
 
 // The coder of the UAT uplink.
 fn uplink() -> Option<Coder<Bare>> {
-    let Some(plan) = listed_plan(UPLINK) else {
-        return None;
-    };
-    let Some(bare) = plan.bare() else {
-        return None;
-    };
+    let plan = listed_plan(UPLINK)?;
+    let bare = plan.bare()?;
     plan.on(bare).ok()
 }
 
@@ -67,55 +60,30 @@ fn misread<R: Sample, C: Carrier<Reading = R>>(
     station: &mut Tuned<C>,
     desk: &mut Desk<R>,
 ) -> anyhow::Result<()> {
-    let short = take(
-        station,
-        &mut desk.first,
-        &mut [],
-        &mut desk.steps,
-        &desk.readings,
-        Verdict::Declined,
-    );
-    print_read(
-        rt,
-        "read with an empty second buffer",
-        short,
-        false,
-        "declined",
-    )?;
-    let none = take(
-        station,
-        &mut desk.first,
-        &mut desk.second,
-        &mut desk.steps,
-        &[],
-        Verdict::Declined,
-    );
-    print_read(rt, "read of no readings", none, false, "declined")
+    let second = mem::replace(&mut desk.second, Vec::new(rt.alloc()));
+    let short = take(station, desk, Verdict::Declined);
+    desk.second = second;
+    print_read(rt, "read with an empty second buffer", short)?;
+    let readings = mem::replace(&mut desk.readings, Vec::new(rt.alloc()));
+    let none = take(station, desk, Verdict::Declined);
+    desk.readings = readings;
+    print_read(rt, "read of no readings", none)
 }
 
-// Reads the block that was sent, through noise, and answers it.
-fn read<R: Sample, C: Carrier<Reading = R>>(
+// Reads the block that was sent, heard wrong where `is_wrong` says so, and answers it.
+fn read<R: Sample, C: Carrier<Reading = R>, F: Fn(usize) -> bool>(
     rt: &HostRuntime,
     call: &str,
     station: &mut Tuned<C>,
     desk: &mut Desk<R>,
-    noise: Noise,
+    is_wrong: F,
     verdict: Verdict,
-) -> anyhow::Result<()> {
-    desk.hear(noise);
-    let taken = take(
-        station,
-        &mut desk.first,
-        &mut desk.second,
-        &mut desk.steps,
-        &desk.readings,
-        verdict,
-    );
-    let said = match verdict {
-        Verdict::Acknowledged => "acknowledged",
-        Verdict::Declined => "declined",
-    };
-    print_read(rt, call, taken, desk.is_back(), said)
+) -> anyhow::Result<()>
+    requires { F.IsAlwaysCallable is_wrong }
+{
+    desk.hear(is_wrong);
+    let taken = take(station, desk, verdict);
+    print_read(rt, call, taken)
 }
 
 // Hands an answer to the other station.
@@ -125,25 +93,16 @@ fn stray<R: Sample, C: Carrier<Reading = R>, D: Carrier>(
     other: &mut Tuned<D>,
     desk: &mut Desk<R>,
 ) -> anyhow::Result<()> {
-    desk.hear(Noise::Quiet);
-    let outcome = take_astray(
-        station,
-        other,
-        &mut desk.first,
-        &mut desk.second,
-        &mut desk.steps,
-        &desk.readings,
-    );
-    match outcome {
+    desk.hear(|_| false);
+    match take_astray(station, other, desk) {
         Ok(strayed) => {
-            let block = strayed.block;
             if let Some(report) = strayed.refusal {
                 print_refused(rt, "read, and acknowledge at the other station", report)?;
             }
-            println!(rt; "acknowledge: block {block}")?;
+            println!(rt; "acknowledge: block {}", strayed.block)?;
             Ok(())
         }
-        Err(report) => print_refused(rt, "read", report),
+        Err(refusal) => print_refused(rt, "read", refusal.report()),
     }
 }
 
@@ -153,21 +112,14 @@ fn stay<R: Sample, C: Carrier<Reading = R> + Drop>(
     station: Tuned<C>,
     desk: &mut Desk<R>,
 ) -> anyhow::Result<Tuned<C>> {
-    let kept = leave_early(
-        station,
-        &mut desk.first,
-        &mut desk.second,
-        &mut desk.steps,
-        &desk.readings,
-    );
+    let kept = leave_early(station, desk);
     match kept.outcome {
         Ok(held) => {
-            let block = held.block;
             print_counts(rt, "read, with its answer held", held.counts)?;
             print_refused(rt, "untune", held.refusal)?;
-            println!(rt; "decline: block {block}")?;
+            println!(rt; "decline: block {}", held.block)?;
         }
-        Err(report) => print_refused(rt, "read", report)?,
+        Err(refusal) => print_refused(rt, "read", refusal.report())?,
     }
     Ok(kept.station)
 }
@@ -180,9 +132,11 @@ fn serve<R: Sample, C: Carrier<Reading = R> + Drop, D: Carrier>(
     desk: &mut Desk<R>,
     burst: usize,
 ) -> anyhow::Result<Tuned<C>> {
-    let body = desk.body;
-    let air = desk.symbols.len();
-    println!(rt; "a body of {body} bytes is a block of {air} symbols")?;
+    println!(rt;
+        "a body of {} bytes is a block of {} symbols",
+        desk.body,
+        desk.symbols.len()
+    )?;
     write(rt, &mut station, desk)?;
     misread(rt, &mut station, desk)?;
     read(
@@ -190,7 +144,7 @@ fn serve<R: Sample, C: Carrier<Reading = R> + Drop, D: Carrier>(
         "read",
         &mut station,
         desk,
-        Noise::Quiet,
+        |_| false,
         Verdict::Acknowledged,
     )?;
     let damaged = format!(in rt.alloc(); "read with {burst} neighbouring symbols damaged")?;
@@ -199,7 +153,7 @@ fn serve<R: Sample, C: Carrier<Reading = R> + Drop, D: Carrier>(
         damaged.as_str(),
         &mut station,
         desk,
-        Noise::Burst(burst),
+        |place| place < burst,
         Verdict::Declined,
     )?;
     read(
@@ -207,7 +161,7 @@ fn serve<R: Sample, C: Carrier<Reading = R> + Drop, D: Carrier>(
         "read with every third symbol damaged",
         &mut station,
         desk,
-        Noise::Storm,
+        |place| place % 3 == 0,
         Verdict::Acknowledged,
     )?;
     stray(rt, &mut station, other, desk)?;
@@ -218,12 +172,12 @@ fn serve<R: Sample, C: Carrier<Reading = R> + Drop, D: Carrier>(
 fn retire<C: Carrier + Drop>(rt: &HostRuntime, station: Tuned<C>) -> anyhow::Result<()> {
     match station.untune() {
         Ok(parts) => {
-            let number = parts.idle.number();
-            let written = parts.counts.written;
-            let symbols = parts.counts.symbols;
-            let bytes = parts.counts.bytes;
             println!(rt;
-                "untune: station {number} is idle; written {written}, {symbols} symbols and {bytes} bytes corrected in all"
+                "untune: station {} is idle; written {}, {} symbols and {} bytes corrected in all",
+                parts.idle.number(),
+                parts.counts.written,
+                parts.counts.symbols,
+                parts.counts.bytes
             )?;
             print_counts(rt, "in all", parts.counts)
         }
@@ -234,12 +188,8 @@ fn retire<C: Carrier + Drop>(rt: &HostRuntime, station: Tuned<C>) -> anyhow::Res
 // Serves both stations, each with the other beside it.
 fn run(rt: &HostRuntime) -> anyhow::Result<()> {
     let heap = rt.alloc();
-    let Some(link) = reverse_link() else {
-        return Err(anyhow!("no reverse link"));
-    };
-    let Some(up) = uplink() else {
-        return Err(anyhow!("no uplink"));
-    };
+    let link = reverse_link().context("no reverse link")?;
+    let up = uplink().context("no uplink")?;
     let mut soft = Desk::new(heap, &link)?;
     let mut bytes = Desk::new(heap, &up)?;
     let ldacs = Idle::new(101).tune(link);

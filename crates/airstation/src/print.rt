@@ -2,14 +2,14 @@
 use crate::service::Taken;
 use stack::fault::Report;
 use station::counts::Counts;
-use station::refusal::WriteRefusal;
+use station::refusal::{ReadRefusal, WriteRefusal};
 
 // A call that was refused.
 pub fn print_refused(rt: &HostRuntime, call: &str, report: Report) -> anyhow::Result<()> {
-    let number = report.number;
-    let depth = report.depth;
-    let place = report.place;
-    println!(rt; "{call}: refused {number}, depth {depth}, place {place}")?;
+    println!(rt;
+        "{call}: refused {}, depth {}, place {}",
+        report.number, report.depth, report.place
+    )?;
     Ok(())
 }
 
@@ -28,39 +28,39 @@ pub fn print_write(
     }
 }
 
-// A read, with what was said to the block.
+// A read, and what was said to the block.
 pub fn print_read(
     rt: &HostRuntime,
     call: &str,
-    outcome: Result<Taken, Report>,
-    back: bool,
-    verdict: &str,
+    outcome: Result<Taken, ReadRefusal>,
 ) -> anyhow::Result<()> {
     match outcome {
         Ok(taken) => {
-            let block = taken.block;
-            let symbols = taken.corrections.symbols;
-            let bytes = taken.corrections.bytes;
-            let body = if back { "as sent" } else { "not as sent" };
+            let body = if taken.is_back {
+                "as sent"
+            } else {
+                "not as sent"
+            };
             println!(rt;
-                "{call}: block {block}, body {body}, {symbols} symbols and {bytes} bytes corrected; {verdict}"
+                "{call}: block {}, body {body}, {} symbols and {} bytes corrected; {}",
+                taken.block, taken.corrections.symbols, taken.corrections.bytes, taken.verdict
             )?;
             Ok(())
         }
-        Err(report) => print_refused(rt, call, report),
+        Err(refusal) => print_refused(rt, call, refusal.report()),
     }
 }
 
 // The counts, as they add up.
 pub fn print_counts(rt: &HostRuntime, when: &str, counts: Counts) -> anyhow::Result<()> {
-    let tried = counts.tried;
     let given = counts.given;
-    let refused = counts.refused;
-    let acknowledged = counts.acknowledged;
-    let declined = counts.declined;
-    let held = counts.owed();
     println!(rt;
-        "{when}: tried {tried} = given {given} + refused {refused}; given {given} = acknowledged {acknowledged} + declined {declined} + held {held}"
+        "{when}: tried {} = given {given} + refused {}; given {given} = acknowledged {} + declined {} + held {}",
+        counts.tried,
+        counts.refused,
+        counts.acknowledged,
+        counts.declined,
+        counts.owed()
     )?;
     Ok(())
 }

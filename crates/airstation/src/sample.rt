@@ -31,36 +31,3 @@ impl Sample for i8 {
         if symbol == 0 { -100 } else { 100 }
     }
 }
-
-// The symbols of a block that are heard wrong.
-#[derive(Clone, Copy)]
-pub enum Noise {
-    // None.
-    Quiet,
-    // So many neighbours, from the first on.
-    Burst(usize),
-    // Every third.
-    Storm,
-}
-
-impl Noise {
-    // Whether the symbol at this place is heard wrong.
-    fn hits(self, place: usize) -> bool {
-        match self {
-            Noise::Quiet => false,
-            Noise::Burst(count) => place < count,
-            Noise::Storm => place % 3 == 0,
-        }
-    }
-
-    // Hears the symbols.
-    pub fn hear<R: Sample>(self, symbols: &[u8], readings: &mut [R]) {
-        for (place, (symbol, reading)) in symbols.iter().zip(readings.iter_mut()).enumerate() {
-            *reading = if self.hits(place) {
-                R::wrong(*symbol)
-            } else {
-                R::clean(*symbol)
-            };
-        }
-    }
-}

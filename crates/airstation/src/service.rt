@@ -2,26 +2,40 @@
 ghost use Rattle.std.specs.Prelude.{◌≡◌, ◌+◌, ◌≢◌};
 ghost use Rattle.station.specs.Counting.{owed};
 
+use crate::desk::Desk;
 use stack::carrier::Carrier;
 use stack::corrections::Corrections;
 use stack::fault::Report;
 use station::answer::{Given, PendingAnswer};
 use station::counts::Counts;
-use station::refusal::Unanswered;
+use station::refusal::{ReadRefusal, Unanswered};
 use station::tuned::{Owing, Tuned};
+use std::fmt;
 
 // What is said to a block.
-#[derive(Clone, Copy)]
+#[derive(Clone, Copy, PartialEq, Eq, Debug)]
 pub enum Verdict {
     Acknowledged,
     Declined,
 }
 
+impl fmt::Display for Verdict {
+    fn fmt<W: fmt::Write>(&self, f: &mut fmt::Formatter<W>) -> fmt::Result {
+        f.write_str(match self {
+            Verdict::Acknowledged => "acknowledged",
+            Verdict::Declined => "declined",
+        })
+    }
+}
+
 // A block that was read and answered.
-#[derive(Clone, Copy)]
+#[derive(Clone, Copy, PartialEq, Eq, Debug)]
 pub struct Taken {
     pub block: u32,
     pub corrections: Corrections,
+    pub verdict: Verdict,
+    // Whether the body is as it was sent.
+    pub is_back: bool,
 }
 
 // Spends an answer that the station owes: its block number.
@@ -43,25 +57,27 @@ fn spend<C: Carrier>(station: &mut Tuned<C>, answer: PendingAnswer, verdict: Ver
 // Reads a block and answers it at once, or says why it was not read.
 pub fn take<C: Carrier>(
     station: &mut Tuned<C>,
-    first: &mut [u8],
-    second: &mut [u8],
-    steps: &mut [u64],
-    readings: &[C::Reading],
+    desk: &mut Desk<C::Reading>,
     verdict: Verdict,
-) -> Result<Taken, Report>
+) -> Result<Taken, ReadRefusal>
     ensures { owed station.new.counts ≡ owed station.old.counts }
 {
-    match station.read(first, second, steps, readings) {
-        Ok(given) => {
-            let Given {
-                corrections,
-                answer,
-            } = given;
-            let block = spend(station, answer, verdict);
-            Ok(Taken { block, corrections })
-        }
-        Err(refusal) => Err(refusal.report()),
-    }
+    let Given {
+        corrections,
+        answer,
+    } = station.read(
+        &mut desk.first,
+        &mut desk.second,
+        &mut desk.steps,
+        &desk.readings,
+    )?;
+    let block = spend(station, answer, verdict);
+    Ok(Taken {
+        block,
+        corrections,
+        verdict,
+        is_back: desk.is_back(),
+    })
 }
 
 // A block whose answer went to another station first: that station's refusal, if it refused.
@@ -75,33 +91,30 @@ pub struct Strayed {
 pub fn take_astray<C: Carrier, D: Carrier>(
     station: &mut Tuned<C>,
     other: &mut Tuned<D>,
-    first: &mut [u8],
-    second: &mut [u8],
-    steps: &mut [u64],
-    readings: &[C::Reading],
-) -> Result<Strayed, Report>
+    desk: &mut Desk<C::Reading>,
+) -> Result<Strayed, ReadRefusal>
     ensures { (station.old.number ≢ other.old.number) → owed station.new.counts ≡ owed station.old.counts }
 {
-    match station.read(first, second, steps, readings) {
-        Ok(given) => {
-            let Given {
-                corrections: _,
-                answer,
-            } = given;
-            match other.acknowledge(answer) {
-                Ok(block) => Ok(Strayed {
-                    block,
-                    refusal: None,
-                }),
-                Err(refused) => {
-                    let refusal = Some(refused.report());
-                    let Unanswered { answer } = refused;
-                    let block = spend(station, answer, Verdict::Acknowledged);
-                    Ok(Strayed { block, refusal })
-                }
-            }
+    let Given {
+        corrections: _,
+        answer,
+    } = station.read(
+        &mut desk.first,
+        &mut desk.second,
+        &mut desk.steps,
+        &desk.readings,
+    )?;
+    match other.acknowledge(answer) {
+        Ok(block) => Ok(Strayed {
+            block,
+            refusal: None,
+        }),
+        Err(refused) => {
+            let refusal = Some(refused.report());
+            let Unanswered { answer } = refused;
+            let block = spend(station, answer, Verdict::Acknowledged);
+            Ok(Strayed { block, refusal })
         }
-        Err(refusal) => Err(refusal.report()),
     }
 }
 
@@ -109,7 +122,7 @@ pub fn take_astray<C: Carrier, D: Carrier>(
 #[derive(Drop)]
 pub struct Kept<C> {
     pub station: Tuned<C>,
-    pub outcome: Result<Held, Report>,
+    pub outcome: Result<Held, ReadRefusal>,
 }
 
 // A block whose answer was held: the counts and the refusal while it was.
@@ -121,16 +134,15 @@ pub struct Held {
 }
 
 // Reads a block, tries to untune before it is answered, and then declines it.
-pub fn leave_early<C: Carrier>(
-    mut station: Tuned<C>,
-    first: &mut [u8],
-    second: &mut [u8],
-    steps: &mut [u64],
-    readings: &[C::Reading],
-) -> Kept<C>
+pub fn leave_early<C: Carrier>(mut station: Tuned<C>, desk: &mut Desk<C::Reading>) -> Kept<C>
     ensures { owed result.station.counts ≡ owed station.counts }
 {
-    match station.read(first, second, steps, readings) {
+    match station.read(
+        &mut desk.first,
+        &mut desk.second,
+        &mut desk.steps,
+        &desk.readings,
+    ) {
         Ok(given) => {
             let Given {
                 corrections: _,
@@ -156,7 +168,7 @@ pub fn leave_early<C: Carrier>(
         }
         Err(refusal) => Kept {
             station,
-            outcome: Err(refusal.report()),
+            outcome: Err(refusal),
         },
     }
 }

@@ -3,11 +3,13 @@ use Rattle.std.proofs.Common.{◌≡◌, ℕ, ◌+◌, ◌≤◌, Bool, true, fa
 use Rattle.std.proofs.lemmas.Bool.{eqb-false}
 use Rattle.stack.specs.declared.fault.CarrierFault.{CarrierFault}
 use Rattle.stack.specs.declared.fault.Misfit.{Misfit}
+use Rattle.stack.specs.declared.fault.Refusal.{Refusal}
+use Rattle.stack.specs.declared.fault.Refusal.TheVariants.{Early, Late}
 use Rattle.stack.specs.Meaning.{Received, CarrierMeaning}
 use Rattle.station.specs.declared.answer.Given.{Given}
 use Rattle.station.specs.declared.counts.Counts.{Counts}
-use Rattle.station.specs.declared.refusal.ReadRefusal.{ReadRefusal}
-use Rattle.station.specs.declared.refusal.ReadRefusal.TheVariants.{Early as EarlyRead, Full as FullRead, Late as LateRead}
+use Rattle.station.specs.declared.refusal.Refused.{Refused}
+use Rattle.station.specs.declared.refusal.Refused.TheVariants.{Full, Carrier}
 use Rattle.station.specs.Counting.{unless_full, read_out, if_judged}
 use Rattle.station.specs.Events.{Event, Wrote, Read, Acknowledged, Declined, Counted, Step}
 use Rattle.station.specs.Runs.{one_if_ok, one_if_late, writes, gives, refuses, tries, acknowledges, declines, symbols_in, bytes_in, symbols_of, bytes_of}
@@ -20,9 +22,9 @@ no_both d =
     elim no [ ]
 
 -- a call that went on was not at 65,535
-not_full : {E : Type 0} (early : Misfit → E) (full : E) (count : ℕ) (j : Result (Unit {0}) Misfit) → Ok tt ≡ unless_full early full count j → count ≡ 65535 → ⊥
-not_full early full count (Ok u) e f = no_both (e ∙ ap (λ m. cond (eqb m 65535) (Err full) (Ok tt)) f)
-not_full early full count (Err m) e f = no_both e
+not_full : {E : Type 0} (early : Misfit → E) (count : ℕ) (j : Result (Unit {0}) Misfit) → Ok tt ≡ unless_full early count j → count ≡ 65535 → ⊥
+not_full early count (Ok u) e f = no_both (e ∙ ap (λ m. cond (eqb m 65535) (Err Full) (Ok tt)) f)
+not_full early count (Err m) e f = no_both e
 
 -- what a read that gives a body says
 pub record Says (n b : ℕ) (v : Result Received CarrierFault) (g : Given) : Type 0 where
@@ -30,7 +32,7 @@ pub record Says (n b : ℕ) (v : Result Received CarrierFault) (g : Given) : Typ
   pub bytes : g.corrections.bytes ≡ bytes_in v
   pub answer : g.answer ≡ record { station = n; block = b }
 
-pub given_says : (n b : ℕ) (j : Result (Unit {0}) ReadRefusal) (v : Result Received CarrierFault) (g : Given) → Ok g ≡ if_judged j (read_out n b v) → Says n b v g
+pub given_says : (n b : ℕ) (j : Result (Unit {0}) (Refused Refusal)) (v : Result Received CarrierFault) (g : Given) → Ok g ≡ if_judged j (read_out n b v) → Says n b v g
 given_says n b (Ok u) (Ok d) g e =
     let same : g ≡ record { corrections = d.counts; answer = record { station = n; block = b } } = cc e in
     record { symbols = ap (λ x. x.corrections.symbols) same; bytes = ap (λ x. x.corrections.bytes) same; answer = ap (λ x. x.answer) same }
@@ -86,9 +88,9 @@ moved c n k (Read a b t rs (Ok g)) k' (p, q) =
       symbols = omega (arith, ap (λ x. x.symbols) q, says.symbols);
       bytes = omega (arith, ap (λ x. x.bytes) q, says.bytes);
     }
-moved c n k (Read a b t rs (Err (EarlyRead f))) k' (p, q) = unmoved c k (Read a b t rs (Err (EarlyRead f))) k' q refl refl refl refl refl refl refl refl
-moved c n k (Read a b t rs (Err FullRead)) k' (p, q) = unmoved c k (Read a b t rs (Err FullRead)) k' q refl refl refl refl refl refl refl refl
-moved c n k (Read a b t rs (Err (LateRead f))) k' (p, q) = record {
+moved c n k (Read a b t rs (Err (Carrier (Early f)))) k' (p, q) = unmoved c k (Read a b t rs (Err (Carrier (Early f)))) k' q refl refl refl refl refl refl refl refl
+moved c n k (Read a b t rs (Err Full)) k' (p, q) = unmoved c k (Read a b t rs (Err Full)) k' q refl refl refl refl refl refl refl refl
+moved c n k (Read a b t rs (Err (Carrier (Late f)))) k' (p, q) = record {
   written = omega (arith, ap (λ x. x.written) q);
   tried = omega (arith, ap (λ x. x.tried) q);
   given = omega (arith, ap (λ x. x.given) q);
@@ -132,7 +134,7 @@ tried_both (Counted k) = refl
 
 -- a count that rises was below its limit
 pub write_below : {R : Type 0} (c : CarrierMeaning R) (n : ℕ) (k : Counts) (e : Event R) (k' : Counts) → Step c n k e k' → k.written ≤ 65535 → k.written + writes e ≤ 65535
-write_below c n k (Wrote a b m (Ok u)) k' (p, q) h = let below : k.written ≡ 65535 → ⊥ = not_full _ _ k.written _ p in omega arith
+write_below c n k (Wrote a b m (Ok u)) k' (p, q) h = let below : k.written ≡ 65535 → ⊥ = not_full _ k.written _ p in omega arith
 write_below c n k (Wrote a b m (Err e)) k' (p, q) h = omega arith
 write_below c n k (Read a b t rs r) k' s h = omega arith
 write_below c n k (Acknowledged p r) k' s h = omega arith
@@ -140,18 +142,18 @@ write_below c n k (Declined p r) k' s h = omega arith
 write_below c n k (Counted m) k' s h = omega arith
 
 -- a read counts at most once
-at_most_one : (r : Result Given ReadRefusal) → one_if_ok r + one_if_late r ≤ 1
+at_most_one : (r : Result Given (Refused Refusal)) → one_if_ok r + one_if_late r ≤ 1
 at_most_one (Ok g) = omega arith
-at_most_one (Err (EarlyRead m)) = omega arith
-at_most_one (Err FullRead) = omega arith
-at_most_one (Err (LateRead f)) = omega arith
+at_most_one (Err (Carrier (Early m))) = omega arith
+at_most_one (Err Full) = omega arith
+at_most_one (Err (Carrier (Late f))) = omega arith
 
 -- a tried read was not at 65,535
-read_below : (n b count : ℕ) (j : Result (Unit {0}) Misfit) (v : Result Received CarrierFault) (r : Result Given ReadRefusal) → r ≡ if_judged (unless_full EarlyRead FullRead count j) (read_out n b v)
+read_below : (n b count : ℕ) (j : Result (Unit {0}) Misfit) (v : Result Received CarrierFault) (r : Result Given (Refused Refusal)) → r ≡ if_judged (unless_full Early count j) (read_out n b v)
     → count ≤ 65535 → count + (one_if_ok r + one_if_late r) ≤ 65535
 read_below n b count (Ok u) v r e h = go (eqb count 65535) refl e
   where
-    go : (full : Bool) → eqb count 65535 ≡ full → r ≡ if_judged (cond full (Err FullRead) (Ok tt)) (read_out n b v) → count + (one_if_ok r + one_if_late r) ≤ 65535
+    go : (full : Bool) → eqb count 65535 ≡ full → r ≡ if_judged (cond full (Err Full) (Ok tt)) (read_out n b v) → count + (one_if_ok r + one_if_late r) ≤ 65535
     go true f e = omega (arith, ap (λ x. one_if_ok x + one_if_late x) e)
     go false f e = let below : count ≡ 65535 → ⊥ = eqb-false count 65535 f in omega (arith, at_most_one r)
 read_below n b count (Err m) v r e h = omega (arith, ap (λ x. one_if_ok x + one_if_late x) e)

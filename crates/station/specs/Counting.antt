@@ -2,16 +2,16 @@
 use Rattle.std.specs.Prelude.{ℕ, ◌+◌, ◌-◌, cond, not, ◌&&◌, Ok, Err, Result, ◌==◌}
 use Rattle.stack.specs.declared.fault.CarrierFault.{CarrierFault}
 use Rattle.stack.specs.declared.fault.Misfit.{Misfit}
+use Rattle.stack.specs.declared.fault.Refusal.{Refusal}
+use Rattle.stack.specs.declared.fault.Refusal.TheVariants.{Early, Late}
 use Rattle.stack.specs.Calls.{judged}
 use Rattle.stack.specs.Meaning.{Received, CarrierMeaning}
 use Rattle.station.specs.declared.answer.Given.{Given}
 use Rattle.station.specs.declared.answer.PendingAnswer.{PendingAnswer}
 use Rattle.station.specs.declared.counts.Counts.{Counts}
-use Rattle.station.specs.declared.refusal.ReadRefusal.{ReadRefusal}
-use Rattle.station.specs.declared.refusal.ReadRefusal.TheVariants.{Early as EarlyRead, Full as FullRead, Late as LateRead}
+use Rattle.station.specs.declared.refusal.Refused.{Refused}
+use Rattle.station.specs.declared.refusal.Refused.TheVariants.{Full, Carrier}
 use Rattle.station.specs.declared.refusal.Unanswered.{Unanswered}
-use Rattle.station.specs.declared.refusal.WriteRefusal.{WriteRefusal}
-use Rattle.station.specs.declared.refusal.WriteRefusal.TheVariants.{Early as EarlyWrite, Full as FullWrite}
 
 -- the counts of a station that was just tuned
 abbrev pub fresh : Counts
@@ -22,22 +22,22 @@ abbrev pub owed : Counts → ℕ
 owed k = k.given - k.acknowledged - k.declined
 
 -- what fits goes on, unless its count is 65,535
-abbrev pub unless_full : {E : Type 0} → (Misfit → E) → E → ℕ → Result (Unit {0}) Misfit → Result (Unit {0}) E
-unless_full early full count (Ok u) = cond (count == 65535) (Err full) (Ok tt)
-unless_full early full count (Err f) = Err (early f)
+abbrev pub unless_full : {E : Type 0} → (Misfit → E) → ℕ → Result (Unit {0}) Misfit → Result (Unit {0}) (Refused E)
+unless_full early count (Ok u) = cond (count == 65535) (Err Full) (Ok tt)
+unless_full early count (Err f) = Err (Carrier (early f))
 
 -- a write with byte buffers of a and b bytes and room for m symbols: 3, 4, then 9
-abbrev pub write_judged : {R : Type 0} → CarrierMeaning R → Counts → ℕ → ℕ → ℕ → Result (Unit {0}) WriteRefusal
-write_judged c k a b m = unless_full EarlyWrite FullWrite k.written (judged c.byte_need a b 0 0 c.air m)
+abbrev pub write_judged : {R : Type 0} → CarrierMeaning R → Counts → ℕ → ℕ → ℕ → Result (Unit {0}) (Refused Misfit)
+write_judged c k a b m = unless_full (λ m. m) k.written (judged c.byte_need a b 0 0 c.air m)
 
 -- a read with byte buffers of a and b bytes, t steps and so many readings: 3, 4, then 9
-abbrev pub read_judged : {R : Type 0} → CarrierMeaning R → Counts → ℕ → ℕ → ℕ → ℕ → Result (Unit {0}) ReadRefusal
-read_judged c k a b t readings = unless_full EarlyRead FullRead k.tried (judged c.byte_need a b c.step_need t c.air readings)
+abbrev pub read_judged : {R : Type 0} → CarrierMeaning R → Counts → ℕ → ℕ → ℕ → ℕ → Result (Unit {0}) (Refused Refusal)
+read_judged c k a b t readings = unless_full Early k.tried (judged c.byte_need a b c.step_need t c.air readings)
 
 -- what a tried read of station n answers, as block b
-abbrev pub read_out : ℕ → ℕ → Result Received CarrierFault → Result Given ReadRefusal
+abbrev pub read_out : ℕ → ℕ → Result Received CarrierFault → Result Given (Refused Refusal)
 read_out n b (Ok g) = Ok (record { corrections = g.counts; answer = record { station = n; block = b } })
-read_out n b (Err f) = Err (LateRead f)
+read_out n b (Err f) = Err (Carrier (Late f))
 
 -- what is not refused is read
 abbrev pub if_judged : {X E : Type 0} → Result (Unit {0}) E → Result X E → Result X E
@@ -49,7 +49,7 @@ abbrev pub spent : ℕ → Counts → PendingAnswer → Result ℕ Unanswered
 spent n k p = cond (p.station == n && not (owed k == 0)) (Ok p.block) (Err (record { answer = p }))
 
 -- the counts after a write
-abbrev pub after_write : Counts → Result (Unit {0}) WriteRefusal → Counts
+abbrev pub after_write : Counts → Result (Unit {0}) (Refused Misfit) → Counts
 after_write k (Ok u) = record {
   written = k.written + 1;
   tried = k.tried;
@@ -63,10 +63,10 @@ after_write k (Ok u) = record {
 after_write k (Err e) = k
 
 -- after a read that the stages refused
-abbrev pub after_refusal : Counts → ReadRefusal → Counts
-after_refusal k (EarlyRead m) = k
-after_refusal k FullRead = k
-after_refusal k (LateRead f) = record {
+abbrev pub after_refusal : Counts → Refused Refusal → Counts
+after_refusal k (Carrier (Early m)) = k
+after_refusal k Full = k
+after_refusal k (Carrier (Late f)) = record {
   written = k.written;
   tried = k.tried + 1;
   given = k.given;
@@ -78,7 +78,7 @@ after_refusal k (LateRead f) = record {
 }
 
 -- after a read
-abbrev pub after_read : Counts → Result Given ReadRefusal → Counts
+abbrev pub after_read : Counts → Result Given (Refused Refusal) → Counts
 after_read k (Ok g) = record {
   written = k.written;
   tried = k.tried + 1;

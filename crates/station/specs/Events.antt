@@ -1,20 +1,21 @@
 -- The calls on a tuned station, each with what it was lent and what it answered.
 use Rattle.std.specs.Prelude.{◌≡◌, ℕ, ◌+◌, List, length, Result}
+use Rattle.stack.specs.declared.fault.Misfit.{Misfit}
+use Rattle.stack.specs.declared.fault.Refusal.{Refusal}
 use Rattle.stack.specs.Meaning.{CarrierMeaning}
 use Rattle.station.specs.declared.answer.Given.{Given}
 use Rattle.station.specs.declared.answer.PendingAnswer.{PendingAnswer}
 use Rattle.station.specs.declared.counts.Counts.{Counts}
-use Rattle.station.specs.declared.refusal.ReadRefusal.{ReadRefusal}
+use Rattle.station.specs.declared.refusal.Refused.{Refused}
 use Rattle.station.specs.declared.refusal.Unanswered.{Unanswered}
-use Rattle.station.specs.declared.refusal.WriteRefusal.{WriteRefusal}
 use Rattle.station.specs.Counting.{write_judged, read_judged, read_out, if_judged, spent, after_write, after_read, after_acknowledge, after_decline}
 
 -- one call on a station whose carrier has readings R
 pub data Event (R : Type 0) : Type 0 where
   -- `write` with two byte buffers, the body in the first, and room for the symbols
-  Wrote : List ℕ → List ℕ → List ℕ → Result (Unit {0}) WriteRefusal → Event R
+  Wrote : List ℕ → List ℕ → List ℕ → Result (Unit {0}) (Refused Misfit) → Event R
   -- `read` with two byte buffers, a step buffer and readings
-  Read : List ℕ → List ℕ → List ℕ → List R → Result Given ReadRefusal → Event R
+  Read : List ℕ → List ℕ → List ℕ → List R → Result Given (Refused Refusal) → Event R
   Acknowledged : PendingAnswer → Result ℕ Unanswered → Event R
   Declined : PendingAnswer → Result ℕ Unanswered → Event R
   Counted : Counts → Event R

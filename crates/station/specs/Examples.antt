@@ -4,9 +4,10 @@ use Rattle.line.specs.Examples as line
 use Rattle.reed_solomon.specs.Examples as outer
 use Rattle.stack.specs.Bare.{bare}
 use Rattle.stack.specs.declared.fault.Misfit.TheVariants.{Buffers}
+use Rattle.stack.specs.declared.fault.Refusal.TheVariants.{Early}
 use Rattle.stages.specs.Examples as stages
 use Rattle.station.specs.declared.answer.PendingAnswer.{PendingAnswer}
-use Rattle.station.specs.declared.refusal.ReadRefusal.TheVariants.{Early}
+use Rattle.station.specs.declared.refusal.Refused.TheVariants.{Carrier}
 use Rattle.station.specs.Events.{Event, Wrote, Read, Acknowledged, Declined}
 use Rattle.station.specs.Runs.{Run, State, tuned}
 
@@ -22,7 +23,7 @@ abbrev pub calls : List (Event ℕ)
 calls = Wrote (5 ∷ []) (0 ∷ []) (0 ∷ []) (Ok tt)
     ∷ Read (0 ∷ []) (0 ∷ []) [] (5 ∷ []) (Ok (record { corrections = record { symbols = 0; bytes = 0 }; answer = of_seven 1 }))
     ∷ Read (0 ∷ []) (0 ∷ []) [] (6 ∷ []) (Ok (record { corrections = record { symbols = 0; bytes = 0 }; answer = of_seven 2 }))
-    ∷ Read [] [] [] (5 ∷ []) (Err (Early Buffers))
+    ∷ Read [] [] [] (5 ∷ []) (Err (Carrier (Early Buffers)))
     ∷ Acknowledged (of_seven 1) (Ok 1)
     ∷ Declined of_eight (Err (record { answer = of_eight }))
     ∷ []

@@ -1,27 +1,28 @@
 -- Each refusal's number, depth and place.
+use Rattle.std.specs.Prelude.{◌≡◌}
 use Rattle.stack.specs.declared.fault.Misfit.{Misfit}
-use Rattle.stack.specs.declared.fault.Refusal.TheVariants.{Late as ForReadings}
+use Rattle.stack.specs.declared.fault.Refusal.{Refusal}
 use Rattle.stack.specs.declared.fault.Report.{Report}
 use Rattle.stack.specs.Faults.{misfit_report, reported}
-use Rattle.station.specs.declared.refusal.WriteRefusal.{WriteRefusal}
-use Rattle.station.specs.declared.refusal.WriteRefusal.TheVariants.{Early as EarlyWrite, Full as FullWrite}
-use Rattle.station.specs.declared.refusal.ReadRefusal.{ReadRefusal}
-use Rattle.station.specs.declared.refusal.ReadRefusal.TheVariants.{Early as EarlyRead, Full as FullRead, Late as LateRead}
+use Rattle.station.specs.declared.refusal.Refused.{Refused}
+use Rattle.station.specs.declared.refusal.Refused.TheVariants.{Full, Carrier}
 
 -- a count that would pass 65,535
 abbrev pub full_report : Report
 full_report = record { number = 9; depth = 0; place = 0 }
 
+-- a refusal, where the carrier's own has a report
+abbrev pub refused_report : {E : Type 0} → (E → Report) → Refused E → Report
+refused_report report Full = full_report
+refused_report report (Carrier e) = report e
+
 -- every refusal of a write
-abbrev pub write_report : WriteRefusal → Report
-write_report (EarlyWrite m) = misfit_report m
-write_report FullWrite = full_report
+abbrev pub write_report : Refused Misfit → Report
+write_report = refused_report misfit_report
 
 -- every refusal of a read
-abbrev pub read_report : ReadRefusal → Report
-read_report (EarlyRead m) = misfit_report m
-read_report FullRead = full_report
-read_report (LateRead f) = reported (ForReadings f)
+abbrev pub read_report : Refused Refusal → Report
+read_report = refused_report reported
 
 -- an answer that is another station's, or where none is owed
 abbrev pub unanswered_report : Report
@@ -31,9 +32,6 @@ unanswered_report = record { number = 7; depth = 0; place = 0 }
 abbrev pub owing_report : Report
 owing_report = record { number = 8; depth = 0; place = 0 }
 
--- what does not fit is refused early
-abbrev pub early_write : Misfit → WriteRefusal
-early_write m = EarlyWrite m
-
-abbrev pub early_read : Misfit → ReadRefusal
-early_read m = EarlyRead m
+-- it is refused by the carrier, with such a refusal
+abbrev pub CarrierSays : {E : Type 0} → (E → Type 0) → Refused E → Type 0
+CarrierSays {E} Says r = (e : E) × Says e × (r ≡ Carrier e)

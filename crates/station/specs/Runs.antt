@@ -1,12 +1,14 @@
 -- Calls on one station, one after another, and what they add up to.
 use Rattle.std.specs.Prelude.{◌≡◌, ℕ, ◌+◌, ◌<◌, ◌≤◌, List, [], ◌∷◌, ◌++◌, length, Ok, Err, Result}
 use Rattle.stack.specs.declared.fault.CarrierFault.{CarrierFault}
+use Rattle.stack.specs.declared.fault.Refusal.{Refusal}
+use Rattle.stack.specs.declared.fault.Refusal.TheVariants.{Early, Late}
 use Rattle.stack.specs.Meaning.{Received, CarrierMeaning}
 use Rattle.station.specs.declared.answer.Given.{Given}
 use Rattle.station.specs.declared.answer.PendingAnswer.{PendingAnswer}
 use Rattle.station.specs.declared.counts.Counts.{Counts}
-use Rattle.station.specs.declared.refusal.ReadRefusal.{ReadRefusal}
-use Rattle.station.specs.declared.refusal.ReadRefusal.TheVariants.{Early as EarlyRead, Full as FullRead, Late as LateRead}
+use Rattle.station.specs.declared.refusal.Refused.{Refused}
+use Rattle.station.specs.declared.refusal.Refused.TheVariants.{Full, Carrier}
 use Rattle.station.specs.declared.refusal.Unanswered.{Unanswered}
 use Rattle.station.specs.Counting.{fresh, spent}
 use Rattle.station.specs.Events.{Event, Wrote, Read, Acknowledged, Declined, Counted, Step}
@@ -24,11 +26,11 @@ one_if_ok (Ok x) = 1
 one_if_ok (Err e) = 0
 
 -- 1 for a read that the stages refused, not 3, 4 or 9
-abbrev pub one_if_late : Result Given ReadRefusal → ℕ
+abbrev pub one_if_late : Result Given (Refused Refusal) → ℕ
 one_if_late (Ok g) = 0
-one_if_late (Err (EarlyRead m)) = 0
-one_if_late (Err FullRead) = 0
-one_if_late (Err (LateRead f)) = 1
+one_if_late (Err (Carrier (Early m))) = 0
+one_if_late (Err Full) = 0
+one_if_late (Err (Carrier (Late f))) = 1
 
 -- the symbols and the bytes that a carrier corrected in readings that give a body
 abbrev pub symbols_in : Result Received CarrierFault → ℕ
@@ -40,7 +42,7 @@ bytes_in (Ok g) = g.counts.bytes
 bytes_in (Err f) = 0
 
 -- so many, where the read gave a body
-abbrev pub if_given : ℕ → Result Given ReadRefusal → ℕ
+abbrev pub if_given : ℕ → Result Given (Refused Refusal) → ℕ
 if_given m (Ok g) = m
 if_given m (Err e) = 0
 
@@ -118,7 +120,7 @@ pub record Without (p : PendingAnswer) (held left : List PendingAnswer) : Type 0
   pub has : left ≡ before ++ after
 
 -- a read that gives a body hands out its answer
-abbrev pub Handed : List PendingAnswer → Result Given ReadRefusal → List PendingAnswer → Type 0
+abbrev pub Handed : List PendingAnswer → Result Given (Refused Refusal) → List PendingAnswer → Type 0
 Handed held (Ok g) held' = held' ≡ g.answer ∷ held
 Handed held (Err e) held' = held' ≡ held
 

@@ -2,11 +2,10 @@
 ghost use Rattle.station.specs.Examples.{Examples};
 
 // The examples hold of what the stages, the outer code, the line and a station mean.
-pub fn examples_hold() -> bool
+pub fn examples_hold()
     ensures { Examples }
 {
-    let stages = stages::examples::examples_hold();
-    let outer = reed_solomon::examples::examples_hold();
-    let line = line::examples::examples_hold();
-    stages & outer & line
+    stages::examples::examples_hold();
+    reed_solomon::examples::examples_hold();
+    line::examples::examples_hold();
 }

@@ -2,7 +2,7 @@
 ghost use Rattle.std.specs.Prelude.{◌≡◌};
 
 // An idle station bears its number, and nothing else: it neither writes nor reads.
-#[derive(Drop)]
+#[derive(Drop, PartialEq, Eq, Debug)]
 pub struct Idle {
     pub(crate) number: u32,
 }

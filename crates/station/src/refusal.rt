@@ -1,64 +1,57 @@
 // Why a station refuses, with each refusal's number, depth and place.
 ghost use Rattle.std.specs.Prelude.{◌≡◌};
-ghost use Rattle.station.specs.Refusals.{write_report, read_report, unanswered_report, early_write, early_read};
+ghost use Rattle.station.specs.Refusals.{write_report, read_report, unanswered_report, CarrierSays};
 
 use crate::answer::PendingAnswer;
-use stack::fault::{CarrierFault, Misfit, Refusal, Report};
+use stack::fault::{Misfit, Refusal, Report};
 
-// Why a write is refused.
-#[derive(Clone, Copy)]
-pub enum WriteRefusal {
-    // What was lent does not fit the carrier.
-    Early(Misfit),
-    // 65,535 blocks were written.
+// Why a write or a read is refused.
+#[derive(Clone, Copy, PartialEq, Eq, Debug)]
+pub enum Refused<E> {
+    // 65,535 blocks were written, or 65,535 reads were tried.
     Full,
+    // What the carrier says.
+    Carrier(E),
 }
 
-// Why a read is refused.
-#[derive(Clone, Copy)]
-pub enum ReadRefusal {
-    // What was lent does not fit the carrier.
-    Early(Misfit),
-    // 65,535 reads were tried.
-    Full,
-    // The readings give no body.
-    Late(CarrierFault),
-}
+// Why a write is refused: the carrier says that what was lent does not fit.
+pub type WriteRefusal = Refused<Misfit>;
+
+// Why a read is refused: the carrier says so too where the readings give no body.
+pub type ReadRefusal = Refused<Refusal>;
 
 // An answer that is not accepted, handed back: it is another station's, or none is owed.
 pub struct Unanswered {
     pub answer: PendingAnswer,
 }
 
-impl WriteRefusal {
+// A count that would pass 65,535, in numbers.
+const FULL: Report = Report {
+    number: 9,
+    depth: 0,
+    place: 0,
+};
+
+impl Refused<Misfit> {
     // This refusal in numbers.
     pub fn report(&self) -> Report
         ensures { result ≡ write_report self.now }
     {
-        match *self {
-            WriteRefusal::Early(misfit) => misfit.report(),
-            WriteRefusal::Full => Report {
-                number: 9,
-                depth: 0,
-                place: 0,
-            },
+        match self {
+            Refused::Full => FULL,
+            Refused::Carrier(misfit) => misfit.report(),
         }
     }
 }
 
-impl ReadRefusal {
+impl Refused<Refusal> {
     // This refusal in numbers.
     pub fn report(&self) -> Report
         ensures { result ≡ read_report self.now }
     {
-        match *self {
-            ReadRefusal::Early(misfit) => misfit.report(),
-            ReadRefusal::Full => Report {
-                number: 9,
-                depth: 0,
-                place: 0,
-            },
-            ReadRefusal::Late(fault) => Refusal::Late(fault).report(),
+        match self {
+            Refused::Full => FULL,
+            Refused::Carrier(refusal) => refusal.report(),
         }
     }
 }
@@ -76,18 +69,10 @@ impl Unanswered {
     }
 }
 
-impl From<Misfit> for WriteRefusal {
-    ghost from_gives = { λ m r. r ≡ early_write m };
+impl<E: From<Misfit>> From<Misfit> for Refused<E> {
+    ghost from_gives = { λ m r. CarrierSays (E.from_gives m) r };
 
-    fn from(misfit: Misfit) -> WriteRefusal {
-        WriteRefusal::Early(misfit)
-    }
-}
-
-impl From<Misfit> for ReadRefusal {
-    ghost from_gives = { λ m r. r ≡ early_read m };
-
-    fn from(misfit: Misfit) -> ReadRefusal {
-        ReadRefusal::Early(misfit)
+    fn from(misfit: Misfit) -> Refused<E> {
+        Refused::Carrier(E::from(misfit))
     }
 }

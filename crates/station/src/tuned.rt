@@ -9,7 +9,7 @@ ghost use Rattle.station.specs.Refusals.{owing_report};
 use crate::answer::{Given, PendingAnswer};
 use crate::counts::Counts;
 use crate::idle::Idle;
-use crate::refusal::{ReadRefusal, Unanswered, WriteRefusal};
+use crate::refusal::{ReadRefusal, Refused, Unanswered, WriteRefusal};
 use stack::carrier::{Carrier, judge};
 use stack::fault::Report;
 
@@ -65,16 +65,7 @@ impl Idle {
     {
         Tuned {
             number: self.number,
-            counts: Counts {
-                written: 0,
-                tried: 0,
-                given: 0,
-                refused: 0,
-                acknowledged: 0,
-                declined: 0,
-                symbols: 0,
-                bytes: 0,
-            },
+            counts: Counts::default(),
             carrier,
         }
     }
@@ -101,7 +92,7 @@ impl<C: Carrier> Tuned<C> {
             symbols.len(),
         )?;
         if self.counts.written == MOST {
-            return Err(WriteRefusal::Full);
+            return Err(Refused::Full);
         }
         self.carrier.send(first, second, symbols);
         self.counts.written += 1;
@@ -129,7 +120,7 @@ impl<C: Carrier> Tuned<C> {
             readings.len(),
         )?;
         if self.counts.tried == MOST {
-            return Err(ReadRefusal::Full);
+            return Err(Refused::Full);
         }
         let outcome = self.carrier.receive(first, second, steps, readings);
         self.counts.tried += 1;
@@ -148,7 +139,7 @@ impl<C: Carrier> Tuned<C> {
             }
             Err(fault) => {
                 self.counts.refused += 1;
-                Err(ReadRefusal::Late(fault))
+                Err(Refused::Carrier(fault.into()))
             }
         }
     }
@@ -188,8 +179,7 @@ impl<C: Carrier> Tuned<C> {
     pub fn count(&self) -> Counts
         ensures { Step (C.Carrier.meaning self.now.carrier) self.now.number self.now.counts (Counted result) self.now.counts }
     {
-        let Tuned { counts, .. } = self;
-        *counts
+        self.counts
     }
 
     // Takes the station out of service, unless it owes answers.

@@ -4,8 +4,8 @@ ghost use Rattle.outer.specs.Correction.{Inside, OnePass, Constant, LocatorMulti
 ghost use Rattle.outer.specs.Decoding.{error_value, corrected, errors};
 
 use super::error_places::Places;
-use super::lanes::Multiples;
-use super::locator::{moved, scalar_multiples};
+use super::lanes::{Multiples, moved};
+use super::locator::scalar_multiples;
 use galois::field::Field;
 use std::simd::prelude::*;
 

@@ -3,15 +3,9 @@ ghost use Rattle.std.specs.Prelude.{◌≡◌, ℕ, ◌+◌, ◌^◌, ◌<◌, �
 ghost use Rattle.outer.specs.Lanes.{lane, Are};
 ghost use Rattle.outer.specs.Encoder.{coefficient, Advanced, Checks};
 
-use super::lanes::{Multiples, multiples_of};
+use super::lanes::{Multiples, moved, multiples_of};
 use galois::field::Field;
 use std::simd::prelude::*;
-
-// Where each lane comes from when all move on by one: the next lane, and for the last a zero.
-pub const NEXT: [usize; 32] = [
-    1, 2, 3, 4, 5, 6, 7, 8, 9, 10, 11, 12, 13, 14, 15, 16, 17, 18, 19, 20, 21, 22, 23, 24, 25, 26,
-    27, 28, 29, 30, 31, 32,
-];
 
 // Multiplies a polynomial by x + a: the coefficients behind the leading 1, which has no lane.
 fn multiply_by_root<F: Field>(field: &F, lower: &mut [u8; 32], a: u8)
@@ -50,7 +44,7 @@ fn advance(generator: &Multiples, checks: u8x32, byte: u8) -> u8x32
     ensures { Advanced generator.now.rows checks byte result }
 {
     let feedback = checks.to_array()[0] ^ byte;
-    checks.shuffle(u8x32::splat(0), NEXT) ^ generator.times(u8x32::splat(feedback))
+    moved(checks) ^ generator.times(u8x32::splat(feedback))
 }
 
 // The check bytes of these data bytes, in as many lanes as the generator has roots.

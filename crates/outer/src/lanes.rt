@@ -1,5 +1,6 @@
 // Products of 32 lanes at once, by the multiples of 32 constants and with no table of the field.
 ghost use Rattle.std.specs.Prelude.{◌≡◌, ℕ, ◌<◌, if◌then◌else◌, bit_and, nat_eq};
+ghost use Rattle.outer.specs.Cutting.{Moved};
 ghost use Rattle.outer.specs.Lanes.{lane, Are, Times};
 
 use galois::field::Field;
@@ -16,6 +17,19 @@ pub struct Row {
 #[derive(Clone, Copy)]
 pub struct Multiples {
     pub rows: [Row; 8],
+}
+
+// Where each lane comes from when all move on by one: the next lane, and for the last a zero.
+pub const NEXT: [usize; 32] = [
+    1, 2, 3, 4, 5, 6, 7, 8, 9, 10, 11, 12, 13, 14, 15, 16, 17, 18, 19, 20, 21, 22, 23, 24, 25, 26,
+    27, 28, 29, 30, 31, 32,
+];
+
+// All lanes move on by one, and a zero comes last.
+pub fn moved(v: u8x32) -> u8x32
+    ensures { Moved v result }
+{
+    v.shuffle(u8x32::splat(0), NEXT)
 }
 
 // The lanes of `row` where `v` has the bit, and 0 elsewhere.

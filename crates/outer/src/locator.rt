@@ -1,10 +1,9 @@
 // The locator polynomial: one that annihilates the syndromes, whose zeros locate the errors.
 ghost use Rattle.std.specs.Prelude.{◌<◌, ◌≤◌, length, MatchOption};
 ghost use Rattle.outer.specs.Lanes.{Are};
-ghost use Rattle.outer.specs.Cutting.{always, Scales, Scaled, Moved, MovedOn, Applies, Power, Powers, Fails, Clears, ClearsAll, Cuts, Annihilator};
+ghost use Rattle.outer.specs.Cutting.{always, Scales, Scaled, MovedOn, Applies, Power, Powers, Fails, Clears, ClearsAll, Cuts, Annihilator};
 
-use super::encoder::NEXT;
-use super::lanes::{Multiples, Row};
+use super::lanes::{Multiples, Row, moved};
 use galois::field::Field;
 use std::array;
 use std::simd::prelude::*;
@@ -36,13 +35,6 @@ pub fn lane_multiples(scales: &[Multiples; 8], v: u8x32) -> Multiples
             lanes: scales[i].times(v),
         }),
     }
-}
-
-// All lanes move on by one, and a zero comes last.
-pub fn moved(v: u8x32) -> u8x32
-    ensures { Moved v result }
-{
-    v.shuffle(u8x32::splat(0), NEXT)
 }
 
 // The multiples of the next lanes' constants, and of 0 in the last.

@@ -3,13 +3,13 @@ use Rattle.std.specs.Prelude.{◌≡◌}
 use Rattle.stack.specs.declared.fault.Misfit.{Misfit}
 use Rattle.stack.specs.declared.fault.Refusal.{Refusal}
 use Rattle.stack.specs.declared.fault.Report.{Report}
-use Rattle.stack.specs.Faults.{misfit_report, reported}
+use Rattle.stack.specs.Faults.{numbered, misfit_report, reported}
 use Rattle.station.specs.declared.refusal.Refused.{Refused}
 use Rattle.station.specs.declared.refusal.Refused.TheVariants.{Full, Carrier}
 
 -- a count that would pass 65,535
 abbrev pub full_report : Report
-full_report = record { number = 9; depth = 0; place = 0 }
+full_report = numbered 9
 
 -- a refusal, where the carrier's own has a report
 abbrev pub refused_report : {E : Type 0} → (E → Report) → Refused E → Report
@@ -26,11 +26,11 @@ read_report = refused_report reported
 
 -- an answer that is another station's, or where none is owed
 abbrev pub unanswered_report : Report
-unanswered_report = record { number = 7; depth = 0; place = 0 }
+unanswered_report = numbered 7
 
 -- a station that owes answers
 abbrev pub owing_report : Report
-owing_report = record { number = 8; depth = 0; place = 0 }
+owing_report = numbered 8
 
 -- it is refused by the carrier, with such a refusal
 abbrev pub CarrierSays : {E : Type 0} → (E → Type 0) → Refused E → Type 0

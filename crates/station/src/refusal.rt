@@ -1,9 +1,9 @@
 // Why a station refuses, with each refusal's number, depth and place.
 ghost use Rattle.std.specs.Prelude.{◌≡◌};
-ghost use Rattle.station.specs.Refusals.{write_report, read_report, unanswered_report, CarrierSays};
+ghost use Rattle.station.specs.Refusals.{refused_report, unanswered_report, CarrierSays};
 
 use crate::answer::PendingAnswer;
-use stack::fault::{Misfit, Refusal, Report};
+use stack::fault::{Misfit, Refusal, Report, Reported};
 
 // Why a write or a read is refused.
 #[derive(Clone, Copy, PartialEq, Eq, Debug)]
@@ -25,47 +25,22 @@ pub struct Unanswered {
     pub answer: PendingAnswer,
 }
 
-// A count that would pass 65,535, in numbers.
-const FULL: Report = Report {
-    number: 9,
-    depth: 0,
-    place: 0,
-};
+impl<E: Reported> Reported for Refused<E> {
+    ghost told = { refused_report E.told };
 
-impl Refused<Misfit> {
-    // This refusal in numbers.
-    pub fn report(&self) -> Report
-        ensures { result ≡ write_report self.now }
-    {
+    fn report(&self) -> Report {
         match self {
-            Refused::Full => FULL,
-            Refused::Carrier(misfit) => misfit.report(),
-        }
-    }
-}
-
-impl Refused<Refusal> {
-    // This refusal in numbers.
-    pub fn report(&self) -> Report
-        ensures { result ≡ read_report self.now }
-    {
-        match self {
-            Refused::Full => FULL,
+            Refused::Full => Report::numbered(9),
             Refused::Carrier(refusal) => refusal.report(),
         }
     }
 }
 
-impl Unanswered {
-    // This refusal in numbers.
-    pub fn report(&self) -> Report
-        ensures { result ≡ unanswered_report }
-    {
-        Report {
-            number: 7,
-            depth: 0,
-            place: 0,
-        }
+impl Reported for Unanswered {
+    ghost told = { λ _. unanswered_report };
+
+    fn report(&self) -> Report {
+        Report::numbered(7)
     }
 }
 

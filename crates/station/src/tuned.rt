@@ -10,8 +10,8 @@ use crate::answer::{Given, PendingAnswer};
 use crate::counts::Counts;
 use crate::idle::Idle;
 use crate::refusal::{ReadRefusal, Refused, Unanswered, WriteRefusal};
-use stack::carrier::{Carrier, judge};
-use stack::fault::Report;
+use stack::carrier::Carrier;
+use stack::fault::{Report, Reported};
 
 // The most blocks that a station writes, and the most reads that it tries.
 const MOST: u32 = 65535;
@@ -44,16 +44,11 @@ pub struct Owing<C> {
     pub station: Tuned<C>,
 }
 
-impl<C> Owing<C> {
-    // This refusal in numbers.
-    pub fn report(&self) -> Report
-        ensures { result ≡ owing_report }
-    {
-        Report {
-            number: 8,
-            depth: 0,
-            place: 0,
-        }
+impl<C> Reported for Owing<C> {
+    ghost told = { λ _. owing_report };
+
+    fn report(&self) -> Report {
+        Report::numbered(8)
     }
 }
 
@@ -82,15 +77,7 @@ impl<C: Carrier> Tuned<C> {
         ensures called { WriteCall (C.Carrier.fits self.old.carrier) (C.Carrier.meaning self.old.carrier) self.old.number self.old.counts first.old second.old symbols.old result self.new.counts first.new second.new symbols.new }
         ensures same { (self.new.number ≡ self.old.number) × (self.new.carrier ≡ self.old.carrier) }
     {
-        judge(
-            self.carrier.byte_need(),
-            first.len(),
-            second.len(),
-            0,
-            0,
-            self.carrier.air_length(),
-            symbols.len(),
-        )?;
+        self.carrier.judge_put(first, second, symbols)?;
         if self.counts.written == MOST {
             return Err(Refused::Full);
         }
@@ -110,15 +97,7 @@ impl<C: Carrier> Tuned<C> {
         ensures called { ReadCall (C.Carrier.fits self.old.carrier) (C.Carrier.meaning self.old.carrier) self.old.number self.old.counts first.old second.old steps.old readings.now result self.new.counts first.new second.new steps.new }
         ensures same { (self.new.number ≡ self.old.number) × (self.new.carrier ≡ self.old.carrier) }
     {
-        judge(
-            self.carrier.byte_need(),
-            first.len(),
-            second.len(),
-            self.carrier.step_need(),
-            steps.len(),
-            self.carrier.air_length(),
-            readings.len(),
-        )?;
+        self.carrier.judge_get(first, second, steps, readings)?;
         if self.counts.tried == MOST {
             return Err(Refused::Full);
         }

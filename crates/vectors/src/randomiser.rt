@@ -13,9 +13,7 @@ const DISPERSAL: [u8; 64] = [
 // The sequence on zeros.
 #[test]
 fn dispersal(rt: HostRuntime) -> Result<(), Fail> {
-    let Some(randomiser) = Randomiser::new(0x4a80, 64, 64) else {
-        return Err(Fail::new("numbers"));
-    };
+    let randomiser = Randomiser::new(0x4a80, 64, 64).ok_or_else(|| Fail::new("numbers"))?;
     assert!(rt; randomiser.upper() == 64 && randomiser.lower() == 64);
     let mut from = [0u8; 64];
     let mut to = [9u8; 64];
@@ -27,15 +25,13 @@ fn dispersal(rt: HostRuntime) -> Result<(), Fail> {
 // A unit of sixteen bytes starts the sequence four times.
 #[test]
 fn units(rt: HostRuntime) -> Result<(), Fail> {
-    let Some(randomiser) = Randomiser::new(0x4a80, 16, 64) else {
-        return Err(Fail::new("numbers"));
-    };
+    let randomiser = Randomiser::new(0x4a80, 16, 64).ok_or_else(|| Fail::new("numbers"))?;
     assert!(rt; randomiser.upper() == 64 && randomiser.lower() == 64);
     let mut from = [0u8; 64];
     let mut to = [0u8; 64];
     randomiser.encode(&mut from, &mut to);
-    for i in 0..64usize {
-        assert!(rt; to[i] == DISPERSAL[i % 16]);
+    for unit in to.chunks(16) {
+        assert!(rt; unit == &DISPERSAL[..16]);
     }
     assert!(rt; Randomiser::new(0x4a80, 15, 64).is_none());
     assert!(rt; Randomiser::new(0, 64, 64).is_none());

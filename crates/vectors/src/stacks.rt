@@ -10,21 +10,11 @@ use std::test::Fail;
 // A marker on a check byte on the bare carrier: each part refuses at its own depth, and leaves its buffers zero.
 #[test]
 fn depths(rt: HostRuntime) -> Result<(), Fail> {
-    let Some(bare) = Bare::new(5) else {
-        return Err(Fail::new("bare"));
-    };
-    let Some(check_stage) = CheckByte::new(4) else {
-        return Err(Fail::new("check"));
-    };
-    let Some(marker) = Marker::new(3) else {
-        return Err(Fail::new("marker"));
-    };
-    let Ok(low) = Stack::new(check_stage, bare) else {
-        return Err(Fail::new("check on bare"));
-    };
-    let Ok(stack) = Stack::new(marker, low) else {
-        return Err(Fail::new("marker on check"));
-    };
+    let bare = Bare::new(5).ok_or_else(|| Fail::new("bare"))?;
+    let check_stage = CheckByte::new(4).ok_or_else(|| Fail::new("check"))?;
+    let marker = Marker::new(3).ok_or_else(|| Fail::new("marker"))?;
+    let low = Stack::new(check_stage, bare).map_err(|_| Fail::new("check on bare"))?;
+    let stack = Stack::new(marker, low).map_err(|_| Fail::new("marker on check"))?;
     assert_eq!(rt; stack.height(), 3);
     let mut a = [1u8, 2, 3, 9, 9, 9];
     let mut b = [7u8; 6];
@@ -36,13 +26,11 @@ fn depths(rt: HostRuntime) -> Result<(), Fail> {
     assert!(rt; stack.get(&mut a, &mut b, &mut t, &m).is_ok());
     assert!(rt; a == [1, 2, 3, 0, 0, 0]);
     m[0] ^= 1;
-    match stack.get(&mut a, &mut b, &mut t, &m) {
-        Ok(_) => return Err(Fail::new("not refused")),
-        Err(f) => {
-            let r = f.report();
-            assert!(rt; r.number == 6 && r.depth == 1 && r.place == 0);
-        }
-    }
+    let Err(refusal) = stack.get(&mut a, &mut b, &mut t, &m) else {
+        return Err(Fail::new("not refused"));
+    };
+    let report = refusal.report();
+    assert!(rt; report.number == 6 && report.depth == 1 && report.place == 0);
     assert!(rt; a == [0u8; 6] && b == [0u8; 6]);
     Ok(())
 }
@@ -50,29 +38,21 @@ fn depths(rt: HostRuntime) -> Result<(), Fail> {
 // What was lent is judged before anything else: buffers first, then the list.
 #[test]
 fn misfits(rt: HostRuntime) -> Result<(), Fail> {
-    let Some(carrier) = Erasing::new(3) else {
-        return Err(Fail::new("carrier"));
-    };
+    let carrier = Erasing::new(3).ok_or_else(|| Fail::new("carrier"))?;
     let mut a = [1u8, 2, 3];
     let mut b = [7u8; 2];
     let mut t = [3u64; 1];
-    match carrier.get(&mut a, &mut b, &mut t, &[Some(1), None]) {
-        Ok(_) => return Err(Fail::new("not refused")),
-        Err(f) => assert_eq!(rt; f.report().number, 3),
-    }
+    let buffers = carrier.get(&mut a, &mut b, &mut t, &[Some(1), None]);
+    assert!(rt; buffers.is_err_and(|refusal| refusal.report().number == 3));
     let mut c = [7u8; 3];
-    match carrier.get(&mut a, &mut c, &mut t, &[Some(1), None]) {
-        Ok(_) => return Err(Fail::new("not refused")),
-        Err(f) => assert_eq!(rt; f.report().number, 4),
-    }
+    let list = carrier.get(&mut a, &mut c, &mut t, &[Some(1), None]);
+    assert!(rt; list.is_err_and(|refusal| refusal.report().number == 4));
     assert!(rt; a == [1, 2, 3] && c == [7, 7, 7]);
-    match carrier.get(&mut a, &mut c, &mut t, &[Some(1), None, Some(2)]) {
-        Ok(_) => return Err(Fail::new("not refused")),
-        Err(f) => {
-            let r = f.report();
-            assert!(rt; r.number == 101 && r.depth == 0 && r.place == 0);
-        }
-    }
+    let Err(refusal) = carrier.get(&mut a, &mut c, &mut t, &[Some(1), None, Some(2)]) else {
+        return Err(Fail::new("not refused"));
+    };
+    let report = refusal.report();
+    assert!(rt; report.number == 101 && report.depth == 0 && report.place == 0);
     assert!(rt; a == [0u8; 3] && c == [0u8; 3]);
     Ok(())
 }
@@ -80,18 +60,12 @@ fn misfits(rt: HostRuntime) -> Result<(), Fail> {
 // A stage that does not meet its carrier is handed back.
 #[test]
 fn unstacked(rt: HostRuntime) -> Result<(), Fail> {
-    let Some(bare) = Bare::new(5) else {
-        return Err(Fail::new("bare"));
+    let bare = Bare::new(5).ok_or_else(|| Fail::new("bare"))?;
+    let marker = Marker::new(3).ok_or_else(|| Fail::new("marker"))?;
+    let Err(parts) = Stack::new(marker, bare) else {
+        return Err(Fail::new("not refused"));
     };
-    let Some(marker) = Marker::new(3) else {
-        return Err(Fail::new("marker"));
-    };
-    match Stack::new(marker, bare) {
-        Ok(_) => Err(Fail::new("not refused")),
-        Err(parts) => {
-            assert_eq!(rt; parts.report().number, 2);
-            assert_eq!(rt; parts.carrier.body_length(), 5);
-            Ok(())
-        }
-    }
+    assert_eq!(rt; parts.report().number, 2);
+    assert_eq!(rt; parts.carrier.body_length(), 5);
+    Ok(())
 }

@@ -2,7 +2,7 @@
 use Rattle.std.proofs.Common.{◌∙◌, arith}
 use Rattle.std.proofs.lemmas.List.{get_or_past}
 use Rattle.outer.proofs.Rows.{lane_moved}
-use Rattle.outer.proofs.locator.moved.Goals as goal
+use Rattle.outer.proofs.lanes.moved.Goals as goal
 
 pub returns : goal.returns
 returns c = record {

@@ -46,11 +46,11 @@ prices cost a b rs = price_of cost (restored (helix a b) rs)
 
 -- how many symbols a block has by a helical rule
 abbrev pub block_size : Helical → ℕ
-block_size rule = rule.a * rule.b
+block_size rule = rule.grid.rows * rule.grid.columns
 
 -- the prices of readings of a block by a helical rule
 abbrev pub rule_prices : {R : Type 0} → (R → ℕ → ℕ) → Helical → List R → ℕ → ℕ → ℕ
-rule_prices cost rule rs = prices cost rule.a rule.b rs
+rule_prices cost rule rs = prices cost rule.grid.rows rule.grid.columns rs
 
 -- what prices give for a body of m bytes: the data bits of least cost, and how many of their marks were read at a cost
 unfoldable pub chosen : Rate → ℕ → (ℕ → ℕ → ℕ) → Received

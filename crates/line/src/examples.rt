@@ -2,8 +2,6 @@
 ghost use Rattle.line.specs.Examples.{Examples};
 
 // The examples hold of what the line and its parts mean.
-pub fn examples_hold() -> bool
+pub fn examples_hold()
     ensures { Examples }
-{
-    true
-}
+{}

@@ -9,7 +9,7 @@ use crate::sending::put_body;
 use convolution::rate::Rate;
 use readings::helical::Helical;
 use readings::reading::Reading;
-use stack::buffer::{clear, clear_steps};
+use stack::buffer::clear;
 use stack::carrier::Carrier;
 use stack::corrections::Corrections;
 use stack::fault::CarrierFault;
@@ -24,13 +24,13 @@ pub struct Line<R> {
     kind: PhantomData<R>,
     ghost low: { 1 ≤ length },
     ghost high: { length ≤ 98304 },
-    ghost room: { marks_before rate (8 * length + 6) ≤ helical.a * helical.b },
+    ghost room: { marks_before rate (8 * length + 6) ≤ helical.grid.rows * helical.grid.columns },
 }
 
 impl<R: Reading> Line<R> {
     // The line at a rate with bodies of `length` bytes on `a` rows of `b` symbols, if they have room for the marks and are at most 98,304.
     pub fn new(rate: Rate, a: usize, b: usize, length: usize) -> Option<Line<R>>
-        ensures { MatchOption result ((1 ≤ length) × (1 ≤ a) × (1 ≤ b) × (a * b ≤ 98304) × (marks_before rate (8 * length + 6) ≤ a * b) → ⊥) (λ c. (c.rate ≡ rate) × (c.helical.a ≡ a) × (c.helical.b ≡ b) × (c.length ≡ length)) }
+        ensures { MatchOption result ((1 ≤ length) × (1 ≤ a) × (1 ≤ b) × (a * b ≤ 98304) × (marks_before rate (8 * length + 6) ≤ a * b) → ⊥) (λ c. (c.rate ≡ rate) × (c.helical.grid.rows ≡ a) × (c.helical.grid.columns ≡ b) × (c.length ≡ length)) }
     {
         let Some(helical) = Helical::new(a, b) else {
             return None;
@@ -51,10 +51,10 @@ impl<R: Reading> Line<R> {
 impl<R: Reading> Carrier for Line<R> {
     type Reading = R;
 
-    ghost meaning = { λ c. lining R.Reading.cost R.Reading.clean c.rate c.helical.a c.helical.b c.length };
+    ghost meaning = { λ c. lining R.Reading.cost R.Reading.clean c.rate c.helical.grid.rows c.helical.grid.columns c.length };
 
     ghost rule = { λ c _.
-        lining_rule R.Reading.cost R.Reading.clean R.Reading.clean_free R.Reading.clean_dear c.rate c.helical.a c.helical.b c.length c.helical.tall c.helical.wide c.helical.small
+        lining_rule R.Reading.cost R.Reading.clean R.Reading.clean_free R.Reading.clean_dear c.rate c.helical.grid.rows c.helical.grid.columns c.length c.helical.grid.tall c.helical.grid.wide c.helical.grid.small
         c.low c.room };
 
     // The number of bytes.
@@ -106,7 +106,7 @@ impl<R: Reading> Carrier for Line<R> {
             readings,
         };
         let symbols = received.read_body(&mut steps[0..count], &mut first[0..self.length]);
-        clear_steps(steps);
+        clear(steps);
         Ok(Corrections { symbols, bytes: 0 })
     }
 }

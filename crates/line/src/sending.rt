@@ -13,7 +13,7 @@ use stack::buffer::clear;
 // The place of mark i.
 pub fn spot(rule: Helical, i: usize) -> usize
     requires { i < block_size rule }
-    ensures at { result ≡ wound rule.a rule.b i }
+    ensures at { result ≡ wound rule.grid.rows rule.grid.columns i }
     ensures inside { result < block_size rule }
 {
     let columns = rule.columns();
@@ -24,7 +24,7 @@ pub fn spot(rule: Helical, i: usize) -> usize
 fn put_marks(rule: Helical, at: usize, marks: &[u8], symbols: &mut [u8])
     requires long { length symbols.old ≡ block_size rule }
     requires room { at + length marks.now ≤ block_size rule }
-    ensures { (ms : List ℕ) → length ms ≡ at → symbols.old ≡ spread rule.a rule.b ms → symbols.new ≡ spread rule.a rule.b (ms ++ marks.now) }
+    ensures { (ms : List ℕ) → length ms ≡ at → symbols.old ≡ spread rule.grid.rows rule.grid.columns ms → symbols.new ≡ spread rule.grid.rows rule.grid.columns (ms ++ marks.now) }
 {
     for (k, mark) in marks.iter().enumerate() {
         symbols[spot(rule, at + k)] = *mark;
@@ -35,7 +35,7 @@ fn put_marks(rule: Helical, at: usize, marks: &[u8], symbols: &mut [u8])
 pub fn put_body(rate: Rate, rule: Helical, body: &[u8], symbols: &mut [u8])
     requires long { length symbols.old ≡ block_size rule }
     requires room { marks_before rate (8 * length body.now + 6) ≤ block_size rule }
-    ensures { symbols.new ≡ block rate rule.a rule.b body.now }
+    ensures { symbols.new ≡ block rate rule.grid.rows rule.grid.columns body.now }
 {
     clear(symbols);
     let mut encoder = Encoder::new(rate);

@@ -6,13 +6,13 @@ use Rattle.line.proofs.Spots.{spread_more}
 use Rattle.line.proofs.sending.put_marks.Goals as goal
 
 pub loop-k-init : goal.loop-k-init
-loop-k-init c = λ ms l e. e ∙ ap (spread c.args.rule.a c.args.rule.b) (sym (append-nil ms))
+loop-k-init c = λ ms l e. e ∙ ap (spread c.args.rule.grid.rows c.args.rule.grid.columns) (sym (append-nil ms))
 
 pub loop-k-preserved : goal.loop-k-preserved
 loop-k-preserved c = λ ms l e.
-    spread_more c.args.rule.a c.args.rule.b c.args.rule.tall c.args.rule.wide ms c.args.marks.now c.loop-k.symbols c.args.at c.loop-k.k c.spot.result l c.requires.room c.loop-k-test.true
+    spread_more c.args.rule.grid.rows c.args.rule.grid.columns c.args.rule.grid.tall c.args.rule.grid.wide ms c.args.marks.now c.loop-k.symbols c.args.at c.loop-k.k c.spot.result l c.requires.room c.loop-k-test.true
     c.spot.ensures.at (c.loop-k.invariant ms l e)
 
 pub returns : goal.returns
 returns c = λ ms l e.
-    c.loop-k.invariant ms l e ∙ ap (λ (xs : List ℕ). spread c.args.rule.a c.args.rule.b (ms ++ xs)) (take_all c.loop-k.k c.args.marks.now (omega arith))
+    c.loop-k.invariant ms l e ∙ ap (λ (xs : List ℕ). spread c.args.rule.grid.rows c.args.rule.grid.columns (ms ++ xs)) (take_all c.loop-k.k c.args.marks.now (omega arith))

@@ -4,4 +4,4 @@ use Rattle.line.specs.Line.{spread}
 use Rattle.line.proofs.sending.put_marks.Given as goal
 
 abbrev pub invariant-loop-k : goal.invariant-loop-k
-invariant-loop-k l = (ms : List ℕ) → length ms ≡ l.at → l.initial.symbols ≡ spread l.rule.a l.rule.b ms → l.symbols ≡ spread l.rule.a l.rule.b (ms ++ take l.k l.marks)
+invariant-loop-k l = (ms : List ℕ) → length ms ≡ l.at → l.initial.symbols ≡ spread l.rule.grid.rows l.rule.grid.columns ms → l.symbols ≡ spread l.rule.grid.rows l.rule.grid.columns (ms ++ take l.k l.marks)

@@ -10,12 +10,12 @@ place-requires c =
     let r = c.args.rule in
     let i = c.args.i in
     let same = sym c.columns-columns.ensures in
-    (subst (λ n. i / n < r.a) same (div_below i r.b r.a r.wide c.requires), subst (λ n. i % n < r.b) same (mod_below i r.b r.wide))
+    (subst (λ n. i / n < r.grid.rows) same (div_below i r.grid.columns r.grid.rows r.grid.wide c.requires), subst (λ n. i % n < r.grid.columns) same (mod_below i r.grid.columns r.grid.wide))
 
 pub returns : goal.returns
 returns c =
     let r = c.args.rule in
     let i = c.args.i in
-    let at : c.place.result ≡ wound r.a r.b i =
-    c.place.ensures ∙ ap (wound r.a r.b) (ap (λ n. i / n * r.b + i % n) c.columns-columns.ensures ∙ div-add-mod' i r.b) in
-    record { at = at; inside = subst (λ n. n < r.a * r.b) (sym at) ((helix_rearranges r.a r.b r.tall r.wide).place_below i c.requires) }
+    let at : c.place.result ≡ wound r.grid.rows r.grid.columns i =
+    c.place.ensures ∙ ap (wound r.grid.rows r.grid.columns) (ap (λ n. i / n * r.grid.columns + i % n) c.columns-columns.ensures ∙ div-add-mod' i r.grid.columns) in
+    record { at = at; inside = subst (λ n. n < r.grid.rows * r.grid.columns) (sym at) ((helix_rearranges r.grid.rows r.grid.columns r.grid.tall r.grid.wide).place_below i c.requires) }

@@ -11,7 +11,7 @@ pub loop-byte-init : goal.loop-byte-init
 unfolding dear
 loop-byte-init g c =
     let none = sent-front_none c.new-encoder.result.rate c.args.body.now in
-    let price = prices g.R.Reading.cost c.args.self.now.rule.a c.args.self.now.rule.b c.args.self.now.readings.now in
+    let price = prices g.R.Reading.cost c.args.self.now.rule.grid.rows c.args.self.now.rule.grid.columns c.args.self.now.readings.now in
     (after_none c.args.body.now c.new-encoder.ensures, ap length (sym none), ap (dear price 0) (sym none))
 
 pub count_marks-total-requires : goal.count_marks-total-requires
@@ -19,7 +19,7 @@ count_marks-total-requires g c =
     let body = c.args.body.now in
     let k = c.loop-byte.byte-index in
     let rate = c.new-encoder.result.rate in
-    let size = c.args.self.now.rule.a * c.args.self.now.rule.b in
+    let size = c.args.self.now.rule.grid.rows * c.args.self.now.rule.grid.columns in
     let room = subst (λ r. marks_before r (8 * length body + 6) ≤ size) (sym c.new-encoder.ensures.same) c.requires in
     let ran = subst (Ran rate (front body k) (bits (get_or body k 0)) c.byte-marks.new.self) (sym c.as_slice-marks.ensures) (c.byte-marks.ensures.ran rate (front body k) c.loop-byte.invariant.0) in
     record { inside = omega (arith, c.loop-byte.invariant.1, byte_room body k size c.loop-byte-test.true room ran); marks = run_small ran }
@@ -29,8 +29,8 @@ overflow_add-total g c =
     let body = c.args.body.now in
     let k = c.loop-byte.byte-index in
     let rate = c.new-encoder.result.rate in
-    let price = prices g.R.Reading.cost c.args.self.now.rule.a c.args.self.now.rule.b c.args.self.now.readings.now in
-    let size = c.args.self.now.rule.a * c.args.self.now.rule.b in
+    let price = prices g.R.Reading.cost c.args.self.now.rule.grid.rows c.args.self.now.rule.grid.columns c.args.self.now.readings.now in
+    let size = c.args.self.now.rule.grid.rows * c.args.self.now.rule.grid.columns in
     let room = subst (λ r. marks_before r (8 * length body + 6) ≤ size) (sym c.new-encoder.ensures.same) c.requires in
     let ran = subst (Ran rate (front body k) (bits (get_or body k 0)) c.byte-marks.new.self) (sym c.as_slice-marks.ensures) (c.byte-marks.ensures.ran rate (front body k) c.loop-byte.invariant.0) in
     omega (
@@ -40,7 +40,7 @@ overflow_add-total g c =
       dear_le price 0 (sent rate (front body k)),
       dear_le price c.loop-byte.i c.as_slice-marks.result.now,
       byte_room body k size c.loop-byte-test.true room ran,
-      c.args.self.now.rule.small,
+      c.args.self.now.rule.grid.small,
     )
 
 pub overflow_add-i : goal.overflow_add-i
@@ -48,17 +48,17 @@ overflow_add-i g c =
     let body = c.args.body.now in
     let k = c.loop-byte.byte-index in
     let rate = c.new-encoder.result.rate in
-    let size = c.args.self.now.rule.a * c.args.self.now.rule.b in
+    let size = c.args.self.now.rule.grid.rows * c.args.self.now.rule.grid.columns in
     let room = subst (λ r. marks_before r (8 * length body + 6) ≤ size) (sym c.new-encoder.ensures.same) c.requires in
     let ran = subst (Ran rate (front body k) (bits (get_or body k 0)) c.byte-marks.new.self) (sym c.as_slice-marks.ensures) (c.byte-marks.ensures.ran rate (front body k) c.loop-byte.invariant.0) in
-    omega (arith, c.loop-byte.invariant.1, byte_room body k size c.loop-byte-test.true room ran, c.args.self.now.rule.small)
+    omega (arith, c.loop-byte.invariant.1, byte_room body k size c.loop-byte-test.true room ran, c.args.self.now.rule.grid.small)
 
 pub loop-byte-preserved : goal.loop-byte-preserved
 loop-byte-preserved g c =
     let body = c.args.body.now in
     let k = c.loop-byte.byte-index in
     let rate = c.new-encoder.result.rate in
-    let price = prices g.R.Reading.cost c.args.self.now.rule.a c.args.self.now.rule.b c.args.self.now.readings.now in
+    let price = prices g.R.Reading.cost c.args.self.now.rule.grid.rows c.args.self.now.rule.grid.columns c.args.self.now.readings.now in
     let ran = subst (Ran rate (front body k) (bits (get_or body k 0)) c.byte-marks.new.self) (sym c.as_slice-marks.ensures) (c.byte-marks.ensures.ran rate (front body k) c.loop-byte.invariant.0) in (
       after_more body k c.loop-byte-test.true ran,
       omega (arith, c.loop-byte.invariant.1, byte_length body k c.loop-byte-test.true ran),
@@ -71,7 +71,7 @@ count_marks-requires g c =
     let body = c.args.body.now in
     let k = c.loop-byte.byte-index in
     let rate = c.new-encoder.result.rate in
-    let size = c.args.self.now.rule.a * c.args.self.now.rule.b in
+    let size = c.args.self.now.rule.grid.rows * c.args.self.now.rule.grid.columns in
     let room = subst (λ r. marks_before r (8 * length body + 6) ≤ size) (sym c.new-encoder.ensures.same) c.requires in
     let ran = subst (Ran rate (front body k) (zeros 6) c.tail-marks.new.self) (sym c.as_slice.ensures) (c.tail-marks.ensures.ran rate (front body k) c.loop-byte.invariant.0) in
     record { inside = omega (arith, c.loop-byte.invariant.1, tail_room body k size (omega arith) room ran); marks = run_small ran }
@@ -81,8 +81,8 @@ overflow_add-result g c =
     let body = c.args.body.now in
     let k = c.loop-byte.byte-index in
     let rate = c.new-encoder.result.rate in
-    let price = prices g.R.Reading.cost c.args.self.now.rule.a c.args.self.now.rule.b c.args.self.now.readings.now in
-    let size = c.args.self.now.rule.a * c.args.self.now.rule.b in
+    let price = prices g.R.Reading.cost c.args.self.now.rule.grid.rows c.args.self.now.rule.grid.columns c.args.self.now.readings.now in
+    let size = c.args.self.now.rule.grid.rows * c.args.self.now.rule.grid.columns in
     let room = subst (λ r. marks_before r (8 * length body + 6) ≤ size) (sym c.new-encoder.ensures.same) c.requires in
     let ran = subst (Ran rate (front body k) (zeros 6) c.tail-marks.new.self) (sym c.as_slice.ensures) (c.tail-marks.ensures.ran rate (front body k) c.loop-byte.invariant.0) in
     omega (
@@ -92,7 +92,7 @@ overflow_add-result g c =
       dear_le price 0 (sent rate (front body k)),
       dear_le price c.loop-byte.i c.as_slice.result.now,
       tail_room body k size (omega arith) room ran,
-      c.args.self.now.rule.small,
+      c.args.self.now.rule.grid.small,
     )
 
 pub returns : goal.returns
@@ -100,7 +100,7 @@ returns g c =
     let body = c.args.body.now in
     let k = c.loop-byte.byte-index in
     let rate = c.new-encoder.result.rate in
-    let price = prices g.R.Reading.cost c.args.self.now.rule.a c.args.self.now.rule.b c.args.self.now.readings.now in
+    let price = prices g.R.Reading.cost c.args.self.now.rule.grid.rows c.args.self.now.rule.grid.columns c.args.self.now.readings.now in
     let ran = subst (Ran rate (front body k) (zeros 6) c.tail-marks.new.self) (sym c.as_slice.ensures) (c.tail-marks.ensures.ran rate (front body k) c.loop-byte.invariant.0) in
     dear_join price (sent rate (front body k)) c.as_slice.result.now (marks c.args.self.now.rate (all_bits body)) c.loop-byte.i c.loop-byte.total c.count_marks.result c.loop-byte.invariant.1
     c.loop-byte.invariant.2 c.count_marks.ensures (sent_last body k (omega arith) ran ∙ ap (λ r. marks r (all_bits body)) c.new-encoder.ensures.same)

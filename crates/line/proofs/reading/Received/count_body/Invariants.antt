@@ -8,4 +8,4 @@ use Rattle.line.proofs.reading.Received.count_body.Given as goal
 abbrev pub invariant-loop-byte : goal.invariant-loop-byte
 invariant-loop-byte g l =
     After l.initial.encoder.rate (front l.body l.byte-index) l.encoder × (l.i ≡ length (sent l.initial.encoder.rate (front l.body l.byte-index)))
-    × (l.total ≡ dear (prices g.R.Reading.cost l.self.rule.a l.self.rule.b l.self.readings.now) 0 (sent l.initial.encoder.rate (front l.body l.byte-index)))
+    × (l.total ≡ dear (prices g.R.Reading.cost l.self.rule.grid.rows l.self.rule.grid.columns l.self.readings.now) 0 (sent l.initial.encoder.rate (front l.body l.byte-index)))

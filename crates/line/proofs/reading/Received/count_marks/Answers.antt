@@ -15,9 +15,9 @@ told : (price : ℕ → ℕ) (cost r n m : ℕ) → cost ≡ r → r ≡ price n
 told price cost r n m p q e = p ∙ q ∙ ap price e
 
 -- the cost that is looked at is the mark's
-price_is : (g : given.Over) (c : goal.Joined-mark-eq0 g) → c.if-mark-eq0.cost ≡ prices g.R.Reading.cost c.args.self.now.rule.a c.args.self.now.rule.b c.args.self.now.readings.now (c.args.i + c.loop-k.k) (get_or c.args.marks.now c.loop-k.k 0)
+price_is : (g : given.Over) (c : goal.Joined-mark-eq0 g) → c.if-mark-eq0.cost ≡ prices g.R.Reading.cost c.args.self.now.rule.grid.rows c.args.self.now.rule.grid.columns c.args.self.now.readings.now (c.args.i + c.loop-k.k) (get_or c.args.marks.now c.loop-k.k 0)
 price_is g c =
-    let price = prices g.R.Reading.cost c.args.self.now.rule.a c.args.self.now.rule.b c.args.self.now.readings.now (c.args.i + c.loop-k.k) in
+    let price = prices g.R.Reading.cost c.args.self.now.rule.grid.rows c.args.self.now.rule.grid.columns c.args.self.now.readings.now (c.args.i + c.loop-k.k) in
     let m = get_or c.args.marks.now c.loop-k.k 0 in
     let small : m < 2 = c.requires.marks c.loop-k.k in
     elim c.if-mark-eq0.branch [
@@ -28,9 +28,9 @@ price_is g c =
 pub loop-k-preserved : goal.loop-k-preserved
 loop-k-preserved g c = (
   omega (arith, c.loop-k.invariant.0, bool_le (ltb 0 c.if-mark-eq0.cost)),
-  dear_more (prices g.R.Reading.cost c.args.self.now.rule.a c.args.self.now.rule.b c.args.self.now.readings.now) c.args.i c.args.marks.now c.loop-k.k c.loop-k.count c.if-mark-eq0.cost c.loop-k-test.true (price_is g c) c.loop-k.invariant.1,
+  dear_more (prices g.R.Reading.cost c.args.self.now.rule.grid.rows c.args.self.now.rule.grid.columns c.args.self.now.readings.now) c.args.i c.args.marks.now c.loop-k.k c.loop-k.count c.if-mark-eq0.cost c.loop-k-test.true (price_is g c) c.loop-k.invariant.1,
 )
 
 pub returns : goal.returns
 returns g c =
-    c.loop-k.invariant.1 ∙ ap (dear (prices g.R.Reading.cost c.args.self.now.rule.a c.args.self.now.rule.b c.args.self.now.readings.now) c.args.i) (take_all c.loop-k.k c.args.marks.now (omega arith))
+    c.loop-k.invariant.1 ∙ ap (dear (prices g.R.Reading.cost c.args.self.now.rule.grid.rows c.args.self.now.rule.grid.columns c.args.self.now.readings.now) c.args.i) (take_all c.loop-k.k c.args.marks.now (omega arith))

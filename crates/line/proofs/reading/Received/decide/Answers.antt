@@ -32,7 +32,7 @@ pub loop-done-preserved : goal.loop-done-preserved
 loop-done-preserved g c =
     let n = c.min-count.result in
     let done = c.loop-done.done in
-    let cost = step_cost c.args.self.now.rate (prices g.R.Reading.cost c.args.self.now.rule.a c.args.self.now.rule.b c.args.self.now.readings.now) in
+    let cost = step_cost c.args.self.now.rate (prices g.R.Reading.cost c.args.self.now.rule.grid.rows c.args.self.now.rule.grid.columns c.args.self.now.readings.now) in
     let few : n ≤ 64 = omega (arith, c.min-count.ensures) in
     let fits : done + n ≤ length c.loop-done.decisions = omega (arith, c.min-count.ensures, c.loop-done.invariant.0) in
     let long : length (take (n - 0) c.loop-done.costs) ≡ n = length-take-le (n - 0) c.loop-done.costs (omega (arith, c.loop-done.invariant.3)) ∙ omega arith in
@@ -47,6 +47,6 @@ loop-done-preserved g c =
 
 pub returns : goal.returns
 returns g c = record {
-  small = price_le g.R.Reading.cost 128 g.met.R.Reading.bounded (restored (helix c.args.self.now.rule.a c.args.self.now.rule.b) c.args.self.now.readings.now);
+  small = price_le g.R.Reading.cost 128 g.met.R.Reading.bounded (restored (helix c.args.self.now.rule.grid.rows c.args.self.now.rule.grid.columns) c.args.self.now.readings.now);
   chose = λ t l. c.loop-done.invariant.2 t (omega arith);
 }

@@ -6,17 +6,17 @@ use Rattle.line.proofs.reading.Received.step_costs.Goals as goal
 
 pub slot_costs-i1-requires : goal.slot_costs-i1-requires
 slot_costs-i1-requires g c =
-    let room = step_room c.args.self.now.rate (λ i m. 0) c.args.step c.args.i c.requires.at _ _ _ (c.kept.ensures 0 (omega arith)) (c.kept.ensures 1 (omega arith)) (c.kept.ensures 2 (omega arith)) (c.args.self.now.rule.a * c.args.self.now.rule.b) c.requires.inside in
+    let room = step_room c.args.self.now.rate (λ i m. 0) c.args.step c.args.i c.requires.at _ _ _ (c.kept.ensures 0 (omega arith)) (c.kept.ensures 1 (omega arith)) (c.kept.ensures 2 (omega arith)) (c.args.self.now.rule.grid.rows * c.args.self.now.rule.grid.columns) c.requires.inside in
     omega arith
 
 pub slot_costs-i2-requires : goal.slot_costs-i2-requires
 slot_costs-i2-requires g c =
-    let room = step_room c.args.self.now.rate (λ i m. 0) c.args.step c.args.i c.requires.at _ _ _ (c.kept.ensures 0 (omega arith)) (c.kept.ensures 1 (omega arith)) (c.kept.ensures 2 (omega arith)) (c.args.self.now.rule.a * c.args.self.now.rule.b) c.requires.inside in
+    let room = step_room c.args.self.now.rate (λ i m. 0) c.args.step c.args.i c.requires.at _ _ _ (c.kept.ensures 0 (omega arith)) (c.kept.ensures 1 (omega arith)) (c.kept.ensures 2 (omega arith)) (c.args.self.now.rule.grid.rows * c.args.self.now.rule.grid.columns) c.requires.inside in
     omega (arith, c.slot_costs-i1.ensures.next)
 
 pub slot_costs-i3-requires : goal.slot_costs-i3-requires
 slot_costs-i3-requires g c =
-    let room = step_room c.args.self.now.rate (λ i m. 0) c.args.step c.args.i c.requires.at _ _ _ (c.kept.ensures 0 (omega arith)) (c.kept.ensures 1 (omega arith)) (c.kept.ensures 2 (omega arith)) (c.args.self.now.rule.a * c.args.self.now.rule.b) c.requires.inside in
+    let room = step_room c.args.self.now.rate (λ i m. 0) c.args.step c.args.i c.requires.at _ _ _ (c.kept.ensures 0 (omega arith)) (c.kept.ensures 1 (omega arith)) (c.kept.ensures 2 (omega arith)) (c.args.self.now.rule.grid.rows * c.args.self.now.rule.grid.columns) c.requires.inside in
     omega (arith, c.slot_costs-i1.ensures.next, c.slot_costs-i2.ensures.next)
 
 pub returns : goal.returns
@@ -25,7 +25,7 @@ returns g c =
     let e1 = c.slot_costs-i2.ensures in
     let e2 = c.slot_costs-i3.ensures in
     let k = λ (n : ℕ). get_or c.kept.result n false in
-    let price = prices g.R.Reading.cost c.args.self.now.rule.a c.args.self.now.rule.b c.args.self.now.readings.now in
+    let price = prices g.R.Reading.cost c.args.self.now.rule.grid.rows c.args.self.now.rule.grid.columns c.args.self.now.readings.now in
     record {
       priced =
           step_priced c.args.self.now.rate price c.args.step c.args.i c.requires.at (k 0) (k 1) (k 2) (c.kept.ensures 0 (omega arith)) (c.kept.ensures 1 (omega arith)) (c.kept.ensures 2 (omega arith)) _ _ _ _ _ _ _ _ e0.next e1.next

@@ -10,7 +10,7 @@ use loopback::loopback;
 use stack::buffer::load;
 use stack::carrier::Carrier;
 use stack::corrections::Corrections;
-use stack::fault::Refusal;
+use stack::fault::{Refusal, Reported};
 use std::process::ExitCode;
 
 // The body that the first line of the input says.
@@ -31,15 +31,9 @@ fn print_outcome(
     match outcome {
         Ok(counts) => {
             let body = hex_text::show(rt.alloc(), buffer.get(0..length).unwrap_or(buffer))?;
-            println!(rt; "{label} ok {} {} {body}", counts.symbols, counts.bytes)?;
+            println!(rt; "{label} ok {counts} {body}")?;
         }
-        Err(refusal) => {
-            let report = refusal.report();
-            println!(rt;
-                "{label} refused {} {} {}",
-                report.number, report.depth, report.place
-            )?;
-        }
+        Err(refusal) => println!(rt; "{label} refused {}", refusal.report())?,
     }
     Ok(())
 }

@@ -16,6 +16,7 @@ use sample::Sample;
 use service::{Verdict, leave_early, take, take_astray};
 use stack::bare::Bare;
 use stack::carrier::Carrier;
+use stack::fault::Reported;
 use station::idle::Idle;
 use station::tuned::Tuned;
 use std::mem;

@@ -1,6 +1,6 @@
 // A line for each call: what was tried, and what was answered.
 use crate::service::Taken;
-use stack::fault::Report;
+use stack::fault::{Report, Reported};
 use station::counts::Counts;
 use station::refusal::{ReadRefusal, WriteRefusal};
 

@@ -5,7 +5,7 @@ ghost use Rattle.station.specs.Counting.{owed};
 use crate::desk::Desk;
 use stack::carrier::Carrier;
 use stack::corrections::Corrections;
-use stack::fault::Report;
+use stack::fault::{Report, Reported};
 use station::answer::{Given, PendingAnswer};
 use station::counts::Counts;
 use station::refusal::{ReadRefusal, Unanswered};
@@ -81,7 +81,7 @@ pub fn take<C: Carrier>(
 }
 
 // A block whose answer went to another station first: that station's refusal, if it refused.
-#[derive(Clone, Copy)]
+#[derive(Clone, Copy, PartialEq, Eq, Debug)]
 pub struct Strayed {
     pub block: u32,
     pub refusal: Option<Report>,
@@ -126,7 +126,7 @@ pub struct Kept<C> {
 }
 
 // A block whose answer was held: the counts and the refusal while it was.
-#[derive(Clone, Copy)]
+#[derive(Clone, Copy, PartialEq, Eq, Debug)]
 pub struct Held {
     pub block: u32,
     pub counts: Counts,

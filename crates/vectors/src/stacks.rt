@@ -3,6 +3,7 @@ use samples::erasing::Erasing;
 use samples::marker::Marker;
 use stack::bare::Bare;
 use stack::carrier::Carrier;
+use stack::fault::{Report, Reported};
 use stack::stack::Stack;
 use stages::check::CheckByte;
 use std::test::Fail;
@@ -29,8 +30,12 @@ fn depths(rt: HostRuntime) -> Result<(), Fail> {
     let Err(refusal) = stack.get(&mut a, &mut b, &mut t, &m) else {
         return Err(Fail::new("not refused"));
     };
-    let report = refusal.report();
-    assert!(rt; report.number == 6 && report.depth == 1 && report.place == 0);
+    let at_one = Report {
+        number: 6,
+        depth: 1,
+        place: 0,
+    };
+    assert_eq!(rt; refusal.report(), at_one);
     assert!(rt; a == [0u8; 6] && b == [0u8; 6]);
     Ok(())
 }
@@ -51,8 +56,7 @@ fn misfits(rt: HostRuntime) -> Result<(), Fail> {
     let Err(refusal) = carrier.get(&mut a, &mut c, &mut t, &[Some(1), None, Some(2)]) else {
         return Err(Fail::new("not refused"));
     };
-    let report = refusal.report();
-    assert!(rt; report.number == 101 && report.depth == 0 && report.place == 0);
+    assert_eq!(rt; refusal.report(), Report::numbered(101));
     assert!(rt; a == [0u8; 3] && c == [0u8; 3]);
     Ok(())
 }

@@ -1,5 +1,6 @@
 // A station in service: a write, reads, answers, and what is refused.
 use samples::erasing::Erasing;
+use stack::fault::Reported;
 use station::answer::Given;
 use station::idle::Idle;
 use station::refusal::ReadRefusal;

@@ -41,6 +41,7 @@ returns-in-Err-new-2 g c =
     ap (λ l. code_meaning l.stage ∷ interleaver_meaning l.carrier.stage ∷ []) middle.1
     ∙ code_there p c.code.result c.in-Ok.low.stage c.in-Ok.low.carrier.stage low.0 c.code.ensures low.1 low.2 in (
       cc,
+      cc,
       check_unfit g.C.Carrier.meaning g.C.Carrier.fits g.met.C.Carrier.rule p unit (sound p c.args.self.now.within) c.check_byte.result part.stage part.carrier.stage
           part.carrier.carrier.stage part.carrier.carrier.carrier c.args.carrier same c.check_byte.ensures b d _ (λ f. f.0.0.0) (λ P. middle.2 (low.4 P)) refused.2,
     )

@@ -4,7 +4,8 @@ use Rattle.std.proofs.lemmas.Bool.{and_parts, eqb-true}
 use Rattle.galois.specs.Bytes.{ByteField}
 use Rattle.plan.specs.declared.listed.Listed.{Listed}
 use Rattle.limits.specs.declared.numbers.PlanNumbers.{PlanNumbers}
-use Rattle.plan.specs.Listed.{table, among, listed, layout_of, numbers_of}
+use Rattle.limits.specs.Numbers.{numbers_of}
+use Rattle.plan.specs.Listed.{table, among, listed, layout_of}
 use Rattle.limits.specs.Limits.{body_length, coded_length, data_length, rate_of}
 use Rattle.limits.specs.Limits.{on_bare}
 use Rattle.plan.specs.Stacks.{Layout, plan_on, plan_stages, randomiser_part, code_part, bare_plan, line_plan, field_of}

@@ -11,7 +11,7 @@ use stack::corrections::Corrections;
 use stack::fault::{CarrierFault, Fault};
 
 // A carrier of so many bytes.
-#[derive(Clone, Copy)]
+#[derive(Clone, Copy, Debug, PartialEq, Eq)]
 pub struct Erasing {
     length: usize,
     ghost low: { 1 ≤ length },

@@ -8,7 +8,7 @@ use stack::fault::Fault;
 use stack::stage::Stage;
 
 // Marks bodies of so many bytes.
-#[derive(Clone, Copy)]
+#[derive(Clone, Copy, Debug, PartialEq, Eq)]
 pub struct Marker {
     length: usize,
     ghost low: { 1 ≤ length },

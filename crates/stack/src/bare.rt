@@ -9,7 +9,7 @@ use crate::corrections::Corrections;
 use crate::fault::CarrierFault;
 
 // A carrier of so many bytes.
-#[derive(Clone, Copy)]
+#[derive(Clone, Copy, Debug, PartialEq, Eq)]
 pub struct Bare {
     length: usize,
     ghost low: { 1 ≤ length },

@@ -2,7 +2,7 @@
 ghost use Rattle.std.specs.Prelude.{◌≡◌, ◌≤◌, length, replicate};
 ghost use Rattle.stack.specs.Buffers.{padded};
 
-// Leaves nothing in a buffer: every element becomes the default of its type, as zero or an absent reading.
+// Leaves nothing in a buffer: every element becomes the default of its type, 0 for a number and none for an option.
 pub fn clear<T: Copy + Default>(buffer: &mut [T])
     ensures { (blank : T) × T.is_default blank × (buffer.new ≡ replicate (length buffer.old) blank) }
 {

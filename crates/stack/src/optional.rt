@@ -33,7 +33,7 @@ impl<S: Stage, C: Carrier> Optional<S, C> {
     {
         let meets = match &stage {
             None => true,
-            Some(stage) => stage.lower() == carrier.body_length() && carrier.height() < 32,
+            Some(stage) => through::meets(stage, &carrier),
         };
         if meets {
             Ok(Optional { stage, carrier })

@@ -49,7 +49,7 @@ impl<S: Stage, C: Carrier> Stack<S, C> {
         ensures nests { Nests (S.Stage.meaning stage) (C.Carrier.meaning carrier) }
         ensures composes { C.Carrier.fits carrier → StacksCompose (C.Carrier.meaning carrier) }
     {
-        if stage.lower() == carrier.body_length() && carrier.height() < 32 {
+        if through::meets(&stage, &carrier) {
             Ok(Stack { stage, carrier })
         } else {
             Err(Unstacked { stage, carrier })

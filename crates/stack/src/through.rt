@@ -1,5 +1,5 @@
 // A stage and the carrier that it stands on, both ways.
-ghost use Rattle.std.specs.Prelude.{◌≡◌, ◌≤◌, length, take};
+ghost use Rattle.std.specs.Prelude.{◌≡◌, ◌≤◌, ◌↔◌, IsTrue, length, take};
 ghost use Rattle.stack.specs.Calls.{Sent, Got};
 ghost use Rattle.stack.specs.Meaning.{stacked, raised, Meets};
 
@@ -7,6 +7,13 @@ use crate::carrier::Carrier;
 use crate::corrections::Corrections;
 use crate::fault::CarrierFault;
 use crate::stage::Stage;
+
+// Whether a stage may be set on a carrier: the lengths meet, and the carrier is below 32 high.
+pub fn meets<S: Stage, C: Carrier>(stage: &S, carrier: &C) -> bool
+    ensures { C.Carrier.fits carrier.now → IsTrue result ↔ Meets (S.Stage.meaning stage.now) (C.Carrier.meaning carrier.now) }
+{
+    stage.lower() == carrier.body_length() && carrier.height() < 32
+}
 
 // How long the byte buffers must be at least: as the longer body of the stage, and as the carrier needs.
 pub fn byte_need<S: Stage, C: Carrier>(stage: &S, carrier: &C) -> usize

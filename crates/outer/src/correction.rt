@@ -25,8 +25,8 @@ fn constant(multiples: &Multiples) -> u8
 
 // For each place the multiples of its locator in a word of n bytes.
 fn locator_multiples<F: Field>(field: &F, places: &Places, n: usize) -> [Multiples; 16]
-    requires { Inside n places.now }
-    ensures { LocatorMultiples (F.Field.meaning field.now) n places.now result }
+    requires { Inside n places.now.items }
+    ensures { LocatorMultiples (F.Field.meaning field.now) n places.now.items result }
 {
     let mut multiples = [scalar_multiples(field, 0); 16];
     for (i, place) in places.as_slice().iter().enumerate() {
@@ -50,8 +50,8 @@ impl<F: Field> Errors<'_, F> {
     // The value of the error at one of the places.
     fn value(&self, place: usize) -> u8
         requires known { (place < self.now.n) × ((self.now.n ≤ 255) × (self.now.r ≤ 254)) }
-        requires located { LocatorMultiples (F.Field.meaning self.now.field.now) self.now.n self.now.places.now self.now.locators }
-        ensures { result ≡ error_value (F.Field.meaning self.now.field.now) self.now.r self.now.n self.now.places.now self.now.syndromes.now place }
+        requires located { LocatorMultiples (F.Field.meaning self.now.field.now) self.now.n self.now.places.now.items self.now.locators }
+        ensures { result ≡ error_value (F.Field.meaning self.now.field.now) self.now.r self.now.n self.now.places.now.items self.now.syndromes.now place }
     {
         let field = self.field;
         let exponent = self.n - 1 - place;
@@ -77,9 +77,9 @@ pub fn correct<F: Field>(
     word: &mut [u8],
 ) -> u32
     requires known { (length word.old ≤ 255) × (r ≤ 254) }
-    requires inside { Inside (length word.old) places.now }
-    ensures word { word.new ≡ corrected (error_value (F.Field.meaning field.now) r (length word.old) places.now syndromes.now) word.old places.now }
-    ensures count { result ≡ errors (error_value (F.Field.meaning field.now) r (length word.old) places.now syndromes.now) places.now }
+    requires inside { Inside (length word.old) places.now.items }
+    ensures word { word.new ≡ corrected (error_value (F.Field.meaning field.now) r (length word.old) places.now.items syndromes.now) word.old places.now.items }
+    ensures count { result ≡ errors (error_value (F.Field.meaning field.now) r (length word.old) places.now.items syndromes.now) places.now.items }
 {
     let n = word.len();
     let errors = Errors {

@@ -1,59 +1,16 @@
 // The places of a word at whose locators a polynomial is zero.
-ghost use Rattle.std.specs.Prelude.{◌≡◌, ℕ, ◌*◌, ◌<◌, ◌≤◌, List, [], ◌∷◌, ◌++◌, length, take};
+ghost use Rattle.std.specs.Prelude.{◌≡◌, ℕ, ◌*◌, ◌<◌, ◌≤◌, length};
 ghost use Rattle.galois.specs.Bytes.{power};
 ghost use Rattle.outer.specs.Lanes.{lane};
 ghost use Rattle.outer.specs.Decoding.{locator_zeros};
 
 use super::locator::{lane_multiples, scales};
+use arrayvec::ArrayVec;
 use galois::field::Field;
-use std::marker::Model;
 use std::simd::prelude::*;
 
 // Places of a word, at most 16, ascending.
-#[derive(Drop)]
-pub struct Places {
-    at: [u8; 16],
-    count: usize,
-}
-
-// Clauses see the places.
-impl Model for Places {
-    ghost Value = { List ℕ };
-
-    ghost view = { λ p. take p.count p.at };
-
-    ghost invariant = { λ p. p.count ≤ 16 };
-}
-
-impl Places {
-    // No place.
-    fn none() -> Self
-        ensures { result ≡ [] }
-    {
-        Places {
-            at: [0; 16],
-            count: 0,
-        }
-    }
-
-    // One place more; a full list stays as it is.
-    fn push(&mut self, place: u8)
-        ensures { length self.old < 16 → self.new ≡ self.old ++ place ∷ [] }
-    {
-        if self.count < 16 {
-            self.at[self.count] = place;
-            self.count += 1;
-        }
-    }
-
-    // The places as a slice.
-    pub fn as_slice(&self) -> &[u8]
-        ensures same { result.now ≡ self.now }
-        ensures few { length self.now ≤ 16 }
-    {
-        &self.at[..self.count]
-    }
-}
+pub type Places = ArrayVec<u8, 16>;
 
 // The powers 0, m, 2 m, .. , 31 m of 02.
 fn powers<F: Field>(field: &F, m: usize) -> [u8; 32]
@@ -72,17 +29,18 @@ fn powers<F: Field>(field: &F, m: usize) -> [u8; 32]
 // The places of a word of n bytes at whose locators a polynomial is zero, if they are at most 16.
 pub fn locator_zeros<F: Field>(field: &F, polynomial: &[u8; 32], n: usize) -> Places
     requires { (1 ≤ n) × (n ≤ 255) }
-    ensures { length (locator_zeros (F.Field.meaning field.now) n polynomial.now) ≤ 16 → result ≡ locator_zeros (F.Field.meaning field.now) n polynomial.now }
+    ensures { length (locator_zeros (F.Field.meaning field.now) n polynomial.now) ≤ 16 → result.items ≡ locator_zeros (F.Field.meaning field.now) n polynomial.now }
 {
     let scales = scales(field);
     // The next place has half the locator, and half is the power 254 of 02.
     let onward = lane_multiples(&scales, u8x32::from_array(powers(field, 254)));
     let first = lane_multiples(&scales, u8x32::from_array(powers(field, n - 1)));
     let mut terms = first.times(u8x32::from_array(*polynomial));
-    let mut places = Places::none();
+    let mut places = Places::new();
     for p in 0..n {
         if terms.reduce_xor() == 0 {
-            places.push(p as u8);
+            // A full list stays as it is.
+            let _room = places.try_push(p as u8);
         }
         terms = onward.times(terms);
     }

@@ -25,7 +25,7 @@ loop-other-preserved-then-from-place g c =
     let rule = g.met.F.Field.rule field in
     let p = c.args.place in
     let s = self.syndromes.now in
-    let zs = self.places.now in
+    let zs = self.places.now.items in
     let i = length c.loop-other.yielded in
     let q = c.in-Some.other.now in
     let none : Multiples = record { rows = [] } in
@@ -48,7 +48,7 @@ loop-other-preserved g c =
     let field = self.field.now in
     let f = g.F.Field.meaning field in
     let p = c.args.place in
-    let zs = self.places.now in
+    let zs = self.places.now.items in
     let s = self.syndromes.now in
     let i = length c.loop-other.yielded in
     let q = c.in-Some.other.now in
@@ -66,10 +66,10 @@ returns g c =
     let f = g.F.Field.meaning field in
     let p = c.args.place in
     let s = self.syndromes.now in
-    let zs = self.places.now in
+    let zs = self.places.now.items in
     let ys = c.loop-other.yielded in
     let end = zip_end zs self.locators ys c.into_iter-other-iterator.result c.loop-other.other-iterator c.next.new.self c.next.result (search rules) (search rules) c.loop-other.yielded_by c.in-None.is c.next.ensures.steps in
-    let whole : take (length ys) zs ≡ zs = take_all (length ys) zs (omega (arith, end, c.as_slice.ensures.few)) in
+    let whole : take (length ys) zs ≡ zs = take_all (length ys) zs (omega (arith, end, c.as_slice.ensures.fits, ap length c.as_slice.ensures.value)) in
     c.mul.ensures ∙ ap (f.mul (lane c.loop-other.sums 0)) c.inverse.ensures
     ∙ passing_value f (g.met.F.Field.rule field) self.r self.n p s zs c.loop-other.sums c.loop-other.divisor
     (subst (λ l. Passing f self.r self.n p (others p l) s c.loop-other.sums c.loop-other.divisor) whole c.loop-other.invariant)

@@ -6,4 +6,4 @@ use Rattle.outer.proofs.correction.Errors.value.Given as goal
 
 abbrev pub invariant-loop-other : goal.invariant-loop-other
 invariant-loop-other g s =
-    Passing (g.F.Field.meaning s.field) s.self.r s.self.n s.place (others s.place (take (length s.yielded) s.self.places.now)) s.self.syndromes.now s.sums s.divisor
+    Passing (g.F.Field.meaning s.field) s.self.r s.self.n s.place (others s.place (take (length s.yielded) s.self.places.now.items)) s.self.syndromes.now s.sums s.divisor

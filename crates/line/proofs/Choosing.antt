@@ -20,12 +20,9 @@ went_from_ran {rate} {r} {price} {cs} {n} {t} {ms} {next} {ds} e l p h =
     let k : Ran rate cs t ms next ds = subst (λ i. Ran rate cs i ms next ds) l (subst (λ s. Ran s cs (length cs) ms next ds) e h) in
     record { tracks = k.tracks price n p; chose = k.chose price n p }
 
--- the decisions from n up to e, and as many costs
-pub run_long : (n e : ℕ) (ds : List ℕ) → e ≤ length ds → length (take (e - n) (drop n ds)) ≡ e - n
-run_long n e ds h = length-take-le (e - n) (drop n ds) (omega (arith, length-drop n ds))
-
-pub costs_long : (n e : ℕ) (ds : List ℕ) (cs : List StepCosts) → e ≤ length ds → e ≤ n + length cs → length (take (length (take (e - n) (drop n ds))) cs) ≡ e - n
-costs_long n e ds cs h l = length-take-le _ cs (omega (arith, run_long n e ds h)) ∙ run_long n e ds h
+-- k decisions from n on
+pub run_long : (n k : ℕ) (ds : List ℕ) → n + k ≤ length ds → length (take (n + k - n) (drop n ds)) ≡ k
+run_long n k ds h = length-take-le (n + k - n) (drop n ds) (omega (arith, length-drop n ds)) ∙ omega arith
 
 -- k steps more are right, and so are all so far
 pub went_more : {rate : Rate} {price : ℕ → ℕ → ℕ} {ms next run : List ℕ} (n t k : ℕ) (ds rest : List ℕ) → Went rate price n t ms next run → t ≡ k → n ≤ length ds → length run ≡ k → Tracks (step_cost rate price) n ms

@@ -117,10 +117,9 @@ impl<'a, R: Reading> Received<'a, R> {
         let mut metrics = Metrics::start();
         let mut costs = [StepCosts::default(); 64];
         for from in (0..decisions.len()).step_by(64) {
-            let to = decisions.len().min(from + 64);
-            let part = &mut decisions[from..to];
-            let costs = &mut costs[..part.len()];
-            self.run_steps(&generators, &mut metrics, from, costs, part);
+            let count = (decisions.len() - from).min(64);
+            let part = &mut decisions[from..from + count];
+            self.run_steps(&generators, &mut metrics, from, &mut costs[..count], part);
         }
     }
 

@@ -1,10 +1,10 @@
 -- The bits that the traceback finds, byte after byte.
-use Rattle.std.proofs.Common.{◌≡◌, ℕ, zero, suc, ◌+◌, ◌-◌, ◌*◌, ◌/◌, ◌%◌, ◌^◌, ◌<◌, ◌≤◌, eqb, List, [], ◌∷◌, ◌++◌, reverse, length, get_or, drop, set, sym, refl, ap, ◌∙◌, append_assoc, div-one, add-one, arith}
+use Rattle.std.proofs.Common.{◌≡◌, ℕ, zero, suc, ◌+◌, ◌-◌, ◌*◌, ◌/◌, ◌%◌, ◌^◌, ◌<◌, ◌≤◌, eqb, List, [], ◌∷◌, ◌++◌, reverse, length, get_or, take, drop, set, sym, refl, ap, ◌∙◌, append_assoc, div-one, add-one, arith}
 use mathlib.Core.List.{reverse-append, reverse-reverse}
 use lib.Bits.{bit_and, bit_or}
 use lib.ListN.{length-reverse}
 use Rattle.std.proofs.lemmas.Nat.{and_mask}
-use Rattle.std.proofs.lemmas.List.{drop-set, drop_at}
+use Rattle.std.proofs.lemmas.List.{drop-set, drop_at, get_or_at, get_or-drop, get_or-take, length-append, length-drop, length-take-le, take_at, take-take}
 use Rattle.convolution.specs.declared.rate.Rate.{Rate}
 use Rattle.convolution.specs.Code.{Word, zeros, bits, all_bits}
 use Rattle.convolution.specs.Cost.{step_cost, best, least}
@@ -44,7 +44,7 @@ back_step : (ds : List ℕ) (n m s d : ℕ) → n ≡ suc m → d ≡ bit_of (ge
 unfolding back
 back_step ds n m s d e f = rw (e, f)
 
-pub left_more : (ds : List ℕ) (a s k b q : ℕ) → k < 8 → Left ds a s k b q →
+left_more : (ds : List ℕ) (a s k b q : ℕ) → k < 8 → Left ds a s k b q →
     let d : ℕ = bit_and (get_or ds (a + 7 - k) 0 / 2 ^ q) 1 in
     Left ds a s (k + 1) (bit_or b ((d * 2 ^ k) % 2 ^ 64)) ((2 * q + d) % 64)
 unfolding lows
@@ -61,6 +61,32 @@ left_more ds a s k b q l h =
       low = rw one (bit_lt b k d h.low two);
       rest = h.rest ∙ rw (one, f, add-one k, lows_more k k b d h.low (omega arith), bit_at b k d h.low two, back_step ds (a + (8 - k)) m q d e is) (sym (append_assoc (lows k b) (eqb d 1 ∷ []) (back ds m ((2 * q + d) % 64))));
     }
+
+-- the last of the first n elements from a on, and those before it
+last_of : (ds xs : List ℕ) (a n v : ℕ) → a + n ≤ length ds → xs ++ v ∷ [] ≡ take n (drop a ds) → (n ≡ length xs + 1) × (xs ≡ take (n - 1) (drop a ds)) × (v ≡ get_or ds (a + (n - 1)) 0)
+last_of ds xs a n v h e =
+    let long : length xs + 1 ≡ n = sym (length-append xs (v ∷ [])) ∙ ap length e ∙ length-take-le n (drop a ds) (omega (arith, length-drop a ds)) in
+    let last : length xs ≡ n - 1 = omega arith in (
+      sym long,
+      sym (take_at xs (v ∷ []) (n - 1) last) ∙ ap (take (n - 1)) e ∙ take-take (n - 1) n (drop a ds) (omega arith),
+      sym (get_or_at xs v [] 0 (n - 1) last) ∙ ap (λ (l : List ℕ). get_or l (n - 1) 0) e ∙ get_or-take n (drop a ds) (n - 1) 0 (omega arith) ∙ get_or-drop a ds (n - 1) 0,
+    )
+
+-- one step more takes the last of the steps that are left
+pub left_next : (ds xs rest : List ℕ) (a s k b q v : ℕ) → a + 8 ≤ length ds → k ≤ 8 → rest ≡ take (8 - k) (drop a ds) → rest ≡ xs ++ v ∷ [] → Left ds a s k b q →
+    let d : ℕ = bit_and (v / 2 ^ q) 1 in
+    Left ds a s (k + 1) (bit_or b ((d * 2 ^ k) % 2 ^ 64)) ((2 * q + d) % 64) × (k + 1 ≤ 8) × (xs ≡ take (8 - (k + 1)) (drop a ds))
+left_next ds xs rest a s k b q v h l e f left =
+    let (long, before, last) = last_of ds xs a (8 - k) v (omega arith) (sym f ∙ e) in
+    let at : a + (8 - k - 1) ≡ a + 7 - k = omega arith in
+    let next : 8 - k - 1 ≡ 8 - (k + 1) = omega arith in (
+      rw (last, at) (left_more ds a s k b q (omega arith) left),
+      omega arith,
+      before ∙ ap (λ n. take n (drop a ds)) next,
+    )
+
+pub none_left : (ds rest : List ℕ) (a k : ℕ) → a + 8 ≤ length ds → k ≤ 8 → rest ≡ take (8 - k) (drop a ds) → length rest ≡ 0 → k ≡ 8
+none_left ds rest a k h l e none = omega (arith, ap length e, length-drop a ds, length-take-le (8 - k) (drop a ds) (omega (arith, length-drop a ds)))
 
 pub left_eight : (ds : List ℕ) (a s k b q : ℕ) → k ≡ 8 → Left ds a s k b q → back ds (a + 8) s ≡ reverse (bits b) ++ back ds a q
 left_eight ds a s k b q e h =

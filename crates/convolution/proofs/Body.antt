@@ -1,5 +1,5 @@
 -- The marks of a body, byte after byte and then the tail.
-use Rattle.std.proofs.Common.{◌≡◌, ℕ, zero, suc, ◌+◌, ◌*◌, ◌<◌, ◌≤◌, Bool, true, false, cond, List, [], ◌∷◌, ◌++◌, length, get_or, take, sym, refl, ap, ◌∙◌, subst, add-zero, add-suc, add-one, arith}
+use Rattle.std.proofs.Common.{◌≡◌, ℕ, zero, suc, ◌+◌, ◌*◌, ◌<◌, ◌≤◌, Bool, true, false, cond, List, [], ◌∷◌, ◌++◌, length, get_or, take, sym, refl, ap, ◌∙◌, subst, add-one, arith}
 use Rattle.std.specs.List.{flat_map}
 use Rattle.std.proofs.lemmas.List.{append-nil, append_assoc, flat_map_more, length-append, take_more, take_all}
 use Rattle.convolution.specs.declared.encoder.Encoder.{Encoder}
@@ -7,7 +7,6 @@ use Rattle.convolution.specs.declared.rate.Rate.{Rate}
 use Rattle.convolution.specs.Code.{Word, bits, mark, generators, keeps, kept_from, all_bits, fed, zeros, window, step_marks, marks_to, marks, marks_before}
 use Rattle.convolution.specs.Encoding.{sent, Ran}
 use Rattle.convolution.proofs.Pattern.{length-marks_to}
-use Rattle.convolution.proofs.Sending.{marks_to-append}
 
 pub all_bits_push : (bs : List ℕ) (b : ℕ) → all_bits (bs ++ b ∷ []) ≡ all_bits bs ++ bits b
 unfolding all_bits
@@ -32,23 +31,6 @@ sent-fed rate w = ap (marks_to rate (fed w)) (length-append w (zeros 6))
 pub length-sent : (rate : Rate) (w : Word) → length (sent rate w) ≡ marks_before rate (length w)
 unfolding sent
 length-sent rate w = length-marks_to rate w (length w)
-
-marks_to-front : (rate : Rate) (w : Word) (t n : ℕ) → (rest : List ℕ) × (marks_to rate w (t + n) ≡ marks_to rate w t ++ rest)
-unfolding marks_to
-marks_to-front rate w t zero = ([], ap (marks_to rate w) (add-zero t) ∙ sym (append-nil (marks_to rate w t)))
-marks_to-front rate w t (suc n) =
-    let before = marks_to-front rate w t n in (
-      before.0 ++ step_marks rate (t + n) (window w (t + n)),
-      ap (marks_to rate w) (add-suc t n) ∙ ap (λ (l : List ℕ). l ++ step_marks rate (t + n) (window w (t + n))) before.1
-          ∙ append_assoc (marks_to rate w t) before.0 (step_marks rate (t + n) (window w (t + n))),
-    )
-
--- what was sent stands before what more bits send
-pub sent_front : (rate : Rate) (w m : Word) → (rest : List ℕ) × (sent rate (w ++ m) ≡ sent rate w ++ rest)
-unfolding sent
-sent_front rate w m =
-    let front = marks_to-front rate (w ++ m) (length w) (length m) in
-    (front.0, ap (marks_to rate (w ++ m)) (length-append w m) ∙ front.1 ∙ ap (λ (l : List ℕ). l ++ front.0) (marks_to-append rate w m (length w) (omega arith)))
 
 -- the number of marks of a run
 pub ran_count : {rate : Rate} {w m : Word} {e : Encoder} {out : List ℕ} → Ran rate w m e out → marks_before rate (length (w ++ m)) ≡ marks_before rate (length w) + length out

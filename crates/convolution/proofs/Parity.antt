@@ -1,6 +1,5 @@
 -- A mark as a sum of bits, one for each bit of the generator.
 use Rattle.std.proofs.Common.{◌≡◌, ℕ, zero, suc, ◌+◌, ◌*◌, ◌/◌, ◌%◌, ◌^◌, ◌<◌, sym, refl, ap, ◌∙◌, mod-eq_of_lt, add_comm, arith}
-use native.Mathlib.Nat.{zero-div, mod-one}
 use lib.Bits.{bit_and, bit_xor, and_zero_r, and_block, and_mask, and_lt, xor_shr, xor_mod}
 use lib.Count.{ones, ones_cat}
 use Rattle.std.proofs.lemmas.Nat.{shr-shr, shr_split, mod-pow-add, pow_pos, mod_below}
@@ -46,12 +45,6 @@ shr_swap n i j = shr-shr n i j ∙ ap (λ (k : ℕ). n / 2 ^ k) (add_comm i j) �
 -- bit i of the number s is 1 when the mask's low j digits share an odd number of ones with the bits from place i on
 abbrev pub Summed : ℕ → ℕ → ℕ → ℕ → Type 0
 Summed s bits g j = (i : ℕ) → s / 2 ^ i % 2 ≡ ones (bit_and (bits / 2 ^ i) (g % 2 ^ j)) % 2
-
-pub summed_none : (bits g : ℕ) → Summed 0 bits g 0
-unfolding ones
-summed_none bits g i =
-    ap (λ (x : ℕ). x % 2) (zero-div (2 ^ i))
-    ∙ sym (ap (λ (x : ℕ). ones (bit_and (bits / 2 ^ i) x) % 2) (mod-one g) ∙ ap (λ (x : ℕ). ones x % 2) (and_zero_r (bits / 2 ^ i)))
 
 pub summed_set : (s bits g j : ℕ) → g / 2 ^ j % 2 ≡ 1 → Summed s bits g j → Summed (bit_xor s (bits / 2 ^ j)) bits g (j + 1)
 summed_set s bits g j e h i =

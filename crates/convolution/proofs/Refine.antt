@@ -1,5 +1,5 @@
 -- The steps over vectors follow the recursion over the states.
-use Rattle.std.proofs.Common.{◌≡◌, ℕ, zero, suc, ◌+◌, ◌*◌, ◌<◌, Bool, true, false, cond, eqb, ltb, ◌≢◌, List, ◌∷◌, length, get_or, set, replicate, sym, refl, ap, ◌∙◌, add-zero, arith, get_or-set_other, get_or-set_same, below_none, below_more}
+use Rattle.std.proofs.Common.{◌≡◌, ℕ, zero, suc, ◌+◌, ◌*◌, ◌<◌, Bool, true, false, cond, eqb, ltb, ◌≢◌, List, ◌∷◌, length, get_or, set, replicate, sym, refl, ap, ◌∙◌, add-zero, arith, get_or-set_other, get_or-set_same, below_more}
 use lib.Dec.{eqb-suc-zero}
 use lib.ListN.{get_or-replicate}
 use Rattle.std.proofs.lemmas.Bool.Decides.{nat_tests}
@@ -52,9 +52,6 @@ tracks_start cost = (0, each)
     each : (s : ℕ) → s < 64 → get_or (set (replicate 64 2305) 0 0) s 0 + 0 ≡ metric cost 0 s
     each zero h = refl
     each (suc s) h = rw (get_or-replicate {A = ℕ} 63 s 2305 0 (omega arith), eqb-suc-zero s)
-
-pub ran_none : (rate : Rate) (cs : List StepCosts) (ms ds : List ℕ) → Ran rate cs 0 ms ms ds
-ran_none rate cs ms ds = record { tracks = λ price n priced tracks. rw add-zero tracks; chose = λ price n priced tracks. below_none _ }
 
 pub ran_more : (rate : Rate) (cs : List StepCosts) (t : ℕ) (ms mid next ds : List ℕ) (less d : ℕ) → t < length cs → t < length ds → Ran rate cs t ms mid ds → Selected (window_cost rate (get_or cs t free)) less mid next d → Ran rate cs (t + 1) ms next (set ds t d)
 ran_more rate cs t ms mid next ds less d lc ld ran h =

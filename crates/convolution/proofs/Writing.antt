@@ -1,6 +1,6 @@
 -- Marks written one after another, the next over one that is not kept.
-use Rattle.std.proofs.Common.{◌≡◌, ℕ, zero, suc, ◌+◌, ◌/◌, ◌%◌, ◌^◌, ◌<◌, ◌≤◌, Bool, true, false, cond, List, [], ◌∷◌, ◌++◌, length, get_or, map, take, sym, refl, ap, ◌∙◌, arith}
-use Rattle.std.proofs.lemmas.List.{append-nil, append_assoc, flat_map_more, length-append, take_more}
+use Rattle.std.proofs.Common.{◌≡◌, ℕ, ◌+◌, ◌/◌, ◌%◌, ◌^◌, ◌<◌, Bool, true, false, cond, List, [], ◌∷◌, ◌++◌, length, get_or, map, take, refl, ◌∙◌, arith}
+use Rattle.std.proofs.lemmas.List.{append-nil, append_assoc}
 use Rattle.std.specs.List.{flat_map}
 use Rattle.convolution.specs.declared.rate.Rate.{Rate}
 use Rattle.convolution.specs.declared.runs.Row.{Row}
@@ -11,22 +11,6 @@ use Rattle.convolution.specs.Encoding.{kept_bit, picked, MarkBits, KeptBits}
 -- what one row adds in step i
 abbrev pub kept_of : ℕ → Row → List ℕ
 kept_of i r = take (r.kept / 2 ^ i % 2) (r.marks / 2 ^ i % 2 ∷ [])
-
--- a row adds at most one mark
-pub row_count : (r : Row) (i : ℕ) (old : List ℕ) {new : List ℕ} → new ≡ old ++ kept_of i r → length new ≤ length old + 1
-row_count r i old e = omega (arith, ap length e, length-append old (kept_of i r), few (r.kept / 2 ^ i % 2) (r.marks / 2 ^ i % 2))
-  where
-    few : (n v : ℕ) → length (take n (v ∷ [])) ≤ 1
-    few zero v = omega arith
-    few (suc zero) v = omega arith
-    few (suc (suc n)) v = omega arith
-
--- one row more
-pub row_more : (rows : List Row) (i k : ℕ) (d : Row) (before old new : List ℕ) → k < length rows → old ≡ before ++ flat_map (kept_of i) (take k rows) → new ≡ old ++ kept_of i (get_or rows k d)
-    → new ≡ before ++ flat_map (kept_of i) (take (k + 1) rows)
-row_more rows i k d before old new h e f =
-    f ∙ ap (λ (l : List ℕ). l ++ kept_of i (get_or rows k d)) e ∙ flat_map_more (kept_of i) before (take k rows) (get_or rows k d)
-    ∙ ap (λ (l : List Row). before ++ flat_map (kept_of i) l) (sym (take_more rows k d h))
 
 -- three rows, one after another
 pub picked_rows : (rows : List Row) (i : ℕ) → length rows ≡ 3 → flat_map (kept_of i) rows ≡ picked (map (λ r. r.marks) rows) (map (λ r. r.kept) rows) i

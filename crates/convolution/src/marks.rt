@@ -44,7 +44,7 @@ impl Model for Marks {
 
 impl Marks {
     // No marks.
-    pub fn new() -> Marks
+    pub(crate) fn new() -> Marks
         ensures { result ≡ [] }
     {
         Marks {
@@ -54,7 +54,7 @@ impl Marks {
     }
 
     // Adds a mark if it is kept.
-    pub fn push(&mut self, mark: u16, kept: u16)
+    pub(crate) fn push(&mut self, mark: u16, kept: u16)
         requires { length self.old < 24 }
         ensures { self.new ≡ self.old ++ take (kept % 2) (mark % 2 ∷ []) }
     {

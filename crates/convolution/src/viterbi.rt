@@ -141,8 +141,8 @@ fn byte_back(decisions: &[u64], from: usize, after: u64) -> (u8, u64)
 {
     let mut byte = 0u64;
     let mut state = after;
-    for k in 0..8usize {
-        let d = decisions[from + 7 - k] >> state & 1;
+    for (k, decision) in decisions[from..from + 8].iter().rev().enumerate() {
+        let d = decision >> state & 1;
         byte |= d << k;
         state = (2 * state + d) % 64;
     }

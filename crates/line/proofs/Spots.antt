@@ -60,10 +60,6 @@ module _ (a b : ℕ) (tall : 1 ≤ a) (wide : 1 ≤ b) where
       (λ i. set (s i) (e i) (get_or xs k 0)) ∙ ap (λ q. set (spread a b (ms ++ take k xs)) (wound a b q) (get_or xs k 0)) (sym n)
       ∙ spread_push (ms ++ take k xs) (get_or xs k 0) (omega arith) ∙ ap (spread a b) next
 
-  length-spread : (ms : List ℕ) → length ms ≤ a * b → length (spread a b ms) ≡ a * b
-  unfolding spread
-  length-spread ms h = length-arranged (helix a b) law (padded (a * b) ms) (length-padded (a * b) ms h)
-
   -- the price of a mark is what the reading at its place costs
   pub price_spot : {R : Type 0} (cost : R → ℕ → ℕ) (rs : List R) (i p m : ℕ) (x : R) → length rs ≡ a * b → i < a * b → p ≡ wound a b i → x ≡ get_or rs p x → cost x m ≡ prices cost a b rs i m
   unfolding restored

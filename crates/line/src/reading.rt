@@ -116,12 +116,10 @@ impl<'a, R: Reading> Received<'a, R> {
         let generators = Generators::from(self.rate);
         let mut metrics = Metrics::start();
         let mut costs = [StepCosts::default(); 64];
-        let mut done = 0;
-        while done < decisions.len() {
-            let count = (decisions.len() - done).min(64);
-            let part = &mut decisions[done..done + count];
-            self.run_steps(&generators, &mut metrics, done, &mut costs[0..count], part);
-            done += count;
+        for from in (0..decisions.len()).step_by(64) {
+            let count = (decisions.len() - from).min(64);
+            let part = &mut decisions[from..from + count];
+            self.run_steps(&generators, &mut metrics, from, &mut costs[..count], part);
         }
     }
 

@@ -1,5 +1,5 @@
 -- The costs are near enough to the first that all of them can be lowered.
-use Rattle.std.proofs.Common.{◌+◌, ◌++◌, add-zero, arith}
+use Rattle.std.proofs.Common.{◌+◌, ◌++◌, arith}
 use Rattle.convolution.proofs.Spread.{near_all}
 use Rattle.convolution.proofs.Halves.{both_lower, low-at, high_at}
 use Rattle.convolution.proofs.lanes.rebase.Goals as goal
@@ -15,9 +15,6 @@ lower-requires-else-low-lt16384 c s h =
     let l = c.args.low in
     let r = c.args.high in
     omega (arith, near_all (l ++ r) c.requires.0 0 (s + 32) (omega arith) (omega arith), low-at l r 0 c.fits-low.0 (omega arith), high_at l r s c.fits-low.0)
-
-pub returns-then-low-lt16384 : goal.returns-then-low-lt16384
-returns-then-low-lt16384 c = ((0, λ s h. add-zero _), omega (arith, low-at c.args.low c.args.high 0 c.fits-low.0 (omega arith)))
 
 pub returns-else-low-lt16384 : goal.returns-else-low-lt16384
 returns-else-low-lt16384 c =

@@ -1,11 +1,8 @@
 use Rattle.std.proofs.Common.{◌≡◌, ℕ, ◌+◌, ◌/◌, ◌^◌, sym, ◌∙◌, subst, arith}
 use lib.Bits.{and_mask}
-use Rattle.convolution.proofs.Parity.{Summed, summed_none, summed_set, summed_clear, summed_all}
+use Rattle.convolution.proofs.Parity.{Summed, summed_set, summed_clear, summed_all}
 use Rattle.convolution.proofs.runs.sums.Goals as goal
 use Rattle.convolution.proofs.runs.sums.Goals.{then-generator-j-eq1, else-generator-j-eq1}
-
-pub loop-j-init : goal.loop-j-init
-loop-j-init c = summed_none c.args.bits c.args.generator
 
 pub loop-j-preserved : goal.loop-j-preserved
 loop-j-preserved c =

@@ -36,12 +36,3 @@ invariant_of-result c =
     let d = c.select-d.result.2 in
     let (k, lower) = c.rebase.ensures.0 in
     record { near = near_next cost below k ms last d c.args.metrics.near (selected_lower cost k ms next last d (c.select-d.ensures cost c.prices.ensures) lower); small = c.rebase.ensures.1 }
-
-pub returns : goal.returns
-returns c =
-    let cost = window_cost c.args.generators.now.rate c.args.c in
-    let ms = c.args.metrics.low ++ c.args.metrics.high in
-    let next = c.select-d.result.0 ++ c.select-d.result.1 in
-    let last = c.rebase.result.0 ++ c.rebase.result.1 in
-    let (k, lower) = c.rebase.ensures.0 in
-    (k, selected_lower cost k ms next last c.select-d.result.2 (c.select-d.ensures cost c.prices.ensures) lower)

@@ -13,9 +13,6 @@ loop-i-init c =
     let w = reverse (back c.args.decisions.now (8 * length body + 6) 0) in
     (omega arith, sym (ap (λ v. w ++ all_bits v) (drop_all (length body) body (omega arith)) ∙ append-nil w))
 
-pub byte_back-byte-requires : goal.byte_back-byte-requires
-byte_back-byte-requires c = record { long = omega arith; state = c.loop-i.invariant.0 }
-
 pub loop-i-preserved : goal.loop-i-preserved
 loop-i-preserved c = (
   c.byte_back-byte.ensures.state,

@@ -6,9 +6,6 @@ pub loop-i-init : goal.loop-i-init
 unfolding rows
 loop-i-init c = (omega (arith, ap length c.new-marks.ensures), c.new-marks.ensures)
 
-pub put_step-requires : goal.put_step-requires
-put_step-requires c = (omega arith, omega (arith, c.loop-i.invariant.0))
-
 pub loop-i-preserved : goal.loop-i-preserved
 loop-i-preserved c = (
   omega (arith, c.put_step.ensures.count, c.loop-i.invariant.0),

@@ -1,12 +1,9 @@
 -- One mark more stands at its place.
-use Rattle.std.proofs.Common.{ℕ, List, ◌++◌, sym, ap, ◌∙◌, arith}
-use Rattle.std.proofs.lemmas.List.{append-nil, take_all}
+use Rattle.std.proofs.Common.{ℕ, List, ◌++◌, ap, ◌∙◌, arith}
+use Rattle.std.proofs.lemmas.List.{take_all}
 use Rattle.line.specs.Line.{spread}
 use Rattle.line.proofs.Spots.{spread_more}
 use Rattle.line.proofs.sending.put_marks.Goals as goal
-
-pub loop-k-init : goal.loop-k-init
-loop-k-init c = λ ms l e. e ∙ ap (spread c.args.rule.grid.rows c.args.rule.grid.columns) (sym (append-nil ms))
 
 pub loop-k-preserved : goal.loop-k-preserved
 loop-k-preserved c = λ ms l e.

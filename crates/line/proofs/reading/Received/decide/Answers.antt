@@ -1,5 +1,5 @@
 -- The decisions of one run of steps more.
-use Rattle.std.proofs.Common.{◌≡◌, ◌+◌, ◌-◌, ◌≤◌, ◌++◌, length, take, drop, sym, refl, ◌∙◌, arith}
+use Rattle.std.proofs.Common.{◌≡◌, ◌+◌, ◌-◌, ◌≤◌, ◌++◌, length, take, drop, sym, ◌∙◌, arith}
 use Rattle.std.proofs.lemmas.List.{length-append, length-drop, length-take-le}
 use Rattle.convolution.proofs.Pattern.{marks_before_mono}
 use Rattle.permutation.specs.Arrange.{restored}
@@ -7,9 +7,6 @@ use Rattle.readings.specs.Helix.{helix}
 use Rattle.line.specs.Costing.{price_le}
 use Rattle.line.proofs.Choosing.{run_long, went_more}
 use Rattle.line.proofs.reading.Received.decide.Goals as goal
-
-pub loop-from-init : goal.loop-from-init
-loop-from-init g c = (c.start-metrics.ensures _, λ t l. absurd (omega arith), refl)
 
 pub run_steps-requires : goal.run_steps-requires
 run_steps-requires g c =

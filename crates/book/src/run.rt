@@ -33,7 +33,7 @@ fn write_body(plan: &Plan, body: &[u8], first: &mut [u8], second: &mut [u8], par
     ensures zeros { (first.new ≡ zeros (length first.old)) × (second.new ≡ zeros (length second.old)) }
 {
     load(first, body);
-    let _ = plan.put(first, second, part);
+    plan.put(first, second, part).unwrap();
 }
 
 // Hands up what a read gave: a body from the front of `first` to `part`, or the refusal.

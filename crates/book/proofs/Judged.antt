@@ -1,9 +1,8 @@
 -- Each thing that can be wrong with an entry, and an entry with which nothing is.
-use Rattle.std.proofs.Common.{◌≡◌, ℕ, zero, suc, ◌+◌, ◌<◌, ◌≤◌, Bool, true, false, cond, eqb, ◌⊎◌, List, length, Some, None, Ok, Err, Option, Result, MatchResult, IsErrAnd, refl, ap, ◌∙◌, inl, inr, add-one, arith, eq-eqb, ne_eqb}
+use Rattle.std.proofs.Common.{◌≡◌, ℕ, zero, suc, ◌+◌, ◌<◌, ◌≤◌, Bool, true, false, cond, eqb, ◌⊎◌, List, length, Some, None, Ok, Err, Option, Result, MatchResult, refl, ap, ◌∙◌, inl, inr, add-one, arith, eq-eqb, ne_eqb}
 use Rattle.std.proofs.lemmas.Bool.{cases_lt}
 use Rattle.std.specs.Option.{ok_or}
 use Rattle.std.specs.Result.{is_ok}
-use Rattle.plan.specs.declared.plan.Plan.{Plan}
 use Rattle.plan.specs.Listed.{listed}
 use Rattle.plan.specs.Stacks.{Layout}
 use Rattle.book.specs.declared.contents.Kind.{Kind}
@@ -54,10 +53,10 @@ module _ (e s : ℕ) (l : EntryLine) where
   right_entry p k h is known a n =
       right_carrier p k h is known a ∙ ap (λ (b : Bool). cond b None (Some (Length e))) (eq-eqb l.length (asked k p.numbers) n)
 
--- a plan that is not listed, told by a fault
-pub no_plan : (o : Option Plan) (w v : BookFault) → ◌≡◌ {A = Result Plan BookFault} (Err v) (ok_or o w) → o ≡ None → w ≡ v
-no_plan None w v h n = let z : w ≡ v = cc in z
-no_plan (Some p) w v h n = absurd (let z : ◌≡◌ {A = ℕ} 0 1 = cc in omega arith)
+-- the fault that is told where nothing is
+pub missing : {A E : Type 0} (o : Option A) (w v : E) → ◌≡◌ {A = Result A E} (Err v) (ok_or o w) → o ≡ None → w ≡ v
+missing None w v h n = let z : w ≡ v = cc in z
+missing (Some p) w v h n = absurd (let z : ◌≡◌ {A = ℕ} 0 1 = cc in omega arith)
 
 -- a number of a kind, and one that no kind has, told by a fault
 pub a_kind : (P : UnknownKind → Type 0) (n : ℕ) (r : Result Kind UnknownKind) (k : Kind) → KindOf n r → MatchResult r (λ x. ◌≡◌ {A = Result Kind BookFault} (Ok k) (Ok x)) P → true ≡ is_ok r → kind_of n ≡ Some k

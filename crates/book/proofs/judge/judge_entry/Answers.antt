@@ -2,10 +2,9 @@ use Rattle.std.proofs.Common.{◌+◌, Some, sym, refl, ap, ◌∙◌, subst, ru
 use Rattle.std.proofs.lemmas.Result.{err_from_is_err_and}
 use Rattle.plan.specs.Listed.{laid}
 use Rattle.book.specs.declared.contents.EntryLine.{EntryLine}
-use Rattle.book.specs.declared.contents.UnknownKind.{UnknownKind}
 use Rattle.book.specs.Jobs.{JobOf}
 use Rattle.book.specs.Judging.{entry_wrong}
-use Rattle.book.proofs.Judged.{wrong_start, wrong_plan, wrong_kind, wrong_carrier, wrong-length, right_entry, no_plan, a_kind, no_kind}
+use Rattle.book.proofs.Judged.{wrong_start, wrong_plan, wrong_kind, wrong_carrier, wrong-length, right_entry, missing, a_kind, no_kind}
 use Rattle.book.proofs.judge.judge_entry.Goals as goal
 
 pub returns-then-line-start : goal.returns-then-line-start
@@ -18,7 +17,7 @@ returns-in_err-plan c =
     rw (p.1, p.2)
     (ap (entry_wrong (c.args.e + 1) c.args.start) (sym c.read_line-line.ensures.value)
     ∙ wrong_plan _ _ _ c.if-line-start.false (sym c.listed_plan.ensures ∙ ap laid c.in_err-plan.ensures.ok_part)
-    ∙ ap Some (no_plan _ _ _ c.in_err-plan.ensures.value c.in_err-plan.ensures.ok_part))
+    ∙ ap Some (missing _ _ _ c.in_err-plan.ensures.value c.in_err-plan.ensures.ok_part))
 
 pub returns-in_err-kind : goal.returns-in_err-kind
 returns-in_err-kind c =

@@ -134,8 +134,9 @@ fn fill_samples(bytes: &[u8], soft: &mut [i8])
     requires { length bytes.now ≡ 2 * length soft.old }
     ensures { soft.new ≡ map soft_of (samples bytes.now) }
 {
+    let (pairs, _) = bytes.as_chunks::<2>();
     for (i, reading) in soft.iter_mut().enumerate() {
-        let sample = i16::from_be_bytes([bytes[2 * i], bytes[2 * i + 1]]);
+        let sample = i16::from_be_bytes(pairs[i]);
         *reading = soft_of_sample(sample);
     }
 }

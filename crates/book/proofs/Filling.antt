@@ -1,7 +1,8 @@
 -- Lists that are filled element by element.
-use Rattle.std.proofs.Common.{◌≡◌, ℕ, zero, suc, ◌+◌, ◌*◌, ◌<◌, ◌≤◌, Bool, cond, leb, List, [], ◌∷◌, ◌++◌, map, length, get_or, take, drop, set, ℤ, Some, None, sym, refl, ap, ◌∙◌, le_of_suc-le-suc, add-one, arith, drop_of_length-le, take_all, drop-cons, take-suc, take-suc-set, w16, to_z}
+use Rattle.std.proofs.Common.{◌≡◌, ℕ, zero, suc, ◌+◌, ◌*◌, ◌<◌, ◌≤◌, Bool, cond, leb, List, [], ◌∷◌, ◌++◌, map, length, get_or, get_or-take, get_or-drop, take, drop, set, ℤ, Some, None, sym, refl, ap, ◌∙◌, le_of_suc-le-suc, add-one, arith, drop_of_length-le, take_all, drop-cons, take-suc, take-suc-set, w16, to_z}
 use Rattle.std.proofs.lemmas.List.{map-append}
 use Rattle.std.proofs.lemmas.Bool.{le-leb, lt-leb}
+use Rattle.std.specs.Simd.{first_chunks}
 use Rattle.book.specs.Running.{first_over, samples}
 
 -- one element more
@@ -36,6 +37,15 @@ sample_at (suc n) (suc i) (high ∷ low ∷ bs) d h k =
     sample_at n i bs d (omega arith) (le_of_suc-le-suc k)
     ∙ ap (λ (j : ℕ). to_z w16 (get_or (high ∷ low ∷ bs) j 0 * 256 + get_or bs (2 * i + 1) 0)) e
     ∙ ap (λ (j : ℕ). to_z w16 (get_or (high ∷ low ∷ bs) (2 * suc i) 0 * 256 + get_or (high ∷ low ∷ bs) j 0)) u
+
+-- byte j of pair i of a list
+chunk_at : (k : ℕ) (bs : List ℕ) (i j : ℕ) → i < k → j < 2 → get_or (get_or (first_chunks 2 k bs) i []) j 0 ≡ get_or bs (2 * i + j) 0
+chunk_at zero bs i j h l = absurd (omega arith)
+chunk_at (suc k) bs zero j h l = get_or-take 2 bs j 0 l ∙ ap (λ (n : ℕ). get_or bs n 0) (omega arith)
+chunk_at (suc k) bs (suc i) j h l = chunk_at k (drop 2 bs) i j (omega arith) l ∙ get_or-drop 2 bs (2 * i + j) 0 ∙ ap (λ (n : ℕ). get_or bs n 0) (omega arith)
+
+pub pair_at : {k : ℕ} {pairs : List (List ℕ)} (bs : List ℕ) (i j : ℕ) → pairs ≡ first_chunks 2 k bs → i < k → j < 2 → get_or (get_or pairs i []) j 0 ≡ get_or bs (2 * i + j) 0
+pair_at {k = k} bs i j e h l = ap (λ (ps : List (List ℕ)). get_or (get_or ps i []) j 0) e ∙ chunk_at k bs i j h l
 
 -- a byte that is a mark, and one that is none
 at_byte : (i : ℕ) (bs : List ℕ) → i < length bs → first_over i (drop i bs) ≡ cond (leb (get_or bs i 0) 2) (first_over (suc i) (drop (suc i) bs)) (Some i)

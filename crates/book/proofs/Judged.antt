@@ -1,14 +1,17 @@
 -- Each thing that can be wrong with an entry, and an entry with which nothing is.
-use Rattle.std.proofs.Common.{◌≡◌, ℕ, zero, suc, ◌+◌, ◌<◌, ◌≤◌, Bool, true, false, cond, eqb, ◌⊎◌, List, length, Some, None, Option, refl, ap, ◌∙◌, inl, inr, add-one, arith, eq-eqb, ne_eqb}
+use Rattle.std.proofs.Common.{◌≡◌, ℕ, zero, suc, ◌+◌, ◌<◌, ◌≤◌, Bool, true, false, cond, eqb, ◌⊎◌, List, length, Some, None, Ok, Err, Option, Result, MatchResult, refl, ap, ◌∙◌, inl, inr, add-one, arith, eq-eqb, ne_eqb}
 use Rattle.std.proofs.lemmas.Bool.{cases_lt}
+use Rattle.std.specs.Option.{ok_or}
+use Rattle.std.specs.Result.{is_ok}
 use Rattle.plan.specs.Listed.{listed}
 use Rattle.plan.specs.Stacks.{Layout}
 use Rattle.book.specs.declared.contents.Kind.{Kind}
 use Rattle.book.specs.declared.contents.EntryLine.{EntryLine}
+use Rattle.book.specs.declared.contents.UnknownKind.{UnknownKind}
 use Rattle.book.specs.declared.fault.BookFault.{BookFault}
 use Rattle.book.specs.declared.job.Job.{Job}
 use Rattle.book.specs.declared.fault.BookFault.TheVariants.{Start, Unlisted, Kind as OfKind, Length}
-use Rattle.book.specs.Contents.{kind_of, line_at, count, contents_end}
+use Rattle.book.specs.Contents.{KindOf, kind_of, line_at, count, contents_end}
 use Rattle.book.specs.Jobs.{JobOf}
 use Rattle.book.specs.Judging.{allowed, asked, by_kind, by_plan, entry_wrong, start_at, or_else, entries_wrong, parts_wrong, kind_needs, no_needs, and_needs, needs_by, entry_needs, needs_before}
 
@@ -49,6 +52,20 @@ module _ (e s : ℕ) (l : EntryLine) where
   pub right_entry : (p : Layout) (k : Kind) → l.start ≡ s → listed l.plan ≡ Some p → kind_of l.kind ≡ Some k → allowed k p.numbers ≡ true → l.length ≡ asked k p.numbers → entry_wrong e s l ≡ None
   right_entry p k h is known a n =
       right_carrier p k h is known a ∙ ap (λ (b : Bool). cond b None (Some (Length e))) (eq-eqb l.length (asked k p.numbers) n)
+
+-- the fault that is told where nothing is
+pub missing : {A E : Type 0} (o : Option A) (w v : E) → ◌≡◌ {A = Result A E} (Err v) (ok_or o w) → o ≡ None → w ≡ v
+missing None w v h n = let z : w ≡ v = cc in z
+missing (Some p) w v h n = absurd (let z : ◌≡◌ {A = ℕ} 0 1 = cc in omega arith)
+
+-- a number of a kind, and one that no kind has, told by a fault
+pub a_kind : (P : UnknownKind → Type 0) (n : ℕ) (r : Result Kind UnknownKind) (k : Kind) → KindOf n r → MatchResult r (λ x. ◌≡◌ {A = Result Kind BookFault} (Ok k) (Ok x)) P → true ≡ is_ok r → kind_of n ≡ Some k
+a_kind P n (Ok x) k h e is = h ∙ ap Some (let z : x ≡ k = cc in z)
+a_kind P n (Err u) k h e is = absurd (let z : ◌≡◌ {A = ℕ} 0 1 = cc in omega arith)
+
+pub no_kind : (P : UnknownKind → Type 0) (n : ℕ) (r : Result Kind UnknownKind) (w : BookFault) → KindOf n r → MatchResult r (λ x. ◌≡◌ {A = Result Kind BookFault} (Err w) (Ok x)) P → (u : UnknownKind) × ((kind_of n ≡ None) × P u)
+no_kind P n (Ok x) w h e = absurd (let z : ◌≡◌ {A = ℕ} 0 1 = cc in omega arith)
+no_kind P n (Err u) w h e = (u, (h.1, e))
 
 -- one entry more
 pub entries_more : (f : List ℕ) (e : ℕ) → entries_wrong f e ≡ None → entries_wrong f (e + 1) ≡ entry_wrong (e + 1) (start_at f e) (line_at f e)

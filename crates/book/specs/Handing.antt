@@ -1,5 +1,5 @@
 -- What a read by a plan hands up to its entry.
-use Rattle.std.specs.Prelude.{◌≡◌, ℕ, ◌≤◌, Bool, true, false, List, length, take, ℤ, Ok, Err, Some, Option, Result}
+use Rattle.std.specs.Prelude.{◌≡◌, ℕ, ◌<◌, ◌≤◌, Bool, true, false, List, length, take, ℤ, Ok, Err, Some, Option, Result, MatchOption}
 use Rattle.plan.specs.declared.refusal.PlanRefusal.{PlanRefusal}
 use Rattle.plan.specs.declared.refusal.PlanRefusal.TheVariants.{OtherCarrier, Stack}
 use Rattle.stack.specs.declared.corrections.Corrections.{Corrections}
@@ -11,7 +11,7 @@ use Rattle.book.specs.declared.contents.Kind.{Kind}
 use Rattle.limits.specs.Limits.{on_bare, air_length, coded_length, step_count}
 use Rattle.limits.specs.declared.numbers.PlanNumbers.{PlanNumbers}
 use Rattle.book.specs.Judging.{Enough, allowed, asked, kind_needs, result_length}
-use Rattle.book.specs.Running.{Idle, Outcome, first_over}
+use Rattle.book.specs.Running.{Idle, Outcome, mark_of, first_over}
 
 -- a body, or a refusal for what the readings say
 abbrev pub OnlyLate : Result Corrections PlanRefusal → Type 0
@@ -44,6 +44,10 @@ LineBlock p n = (on_bare p ≡ false) × (n ≡ air_length p)
 -- two byte buffers and a step buffer are long enough for a read by a plan
 abbrev pub RoomToRead : PlanNumbers → List ℕ → List ℕ → List ℕ → Type 0
 RoomToRead p first second steps = (coded_length p ≤ length first) × ((length second ≡ length first) × (step_count p ≤ length steps))
+
+-- a byte is a mark, or over 2
+abbrev pub MarkOf : ℕ → Option (Option Bool) → Type 0
+MarkOf b o = MatchOption o (2 < b) (λ m. (b ≤ 2) × (m ≡ mark_of b))
 
 -- refused for the first byte that is no mark
 abbrev pub FirstOver : List ℕ → EntryFault → Type 0

@@ -1,4 +1,7 @@
 // The record of an entry.
+ghost use Rattle.std.specs.Prelude.{◌≡◌};
+ghost use Rattle.book.specs.Running.{refusal_of, counts_of};
+
 use crate::contents::EntryLine;
 use crate::fault::EntryFault;
 use stack::corrections::Corrections;
@@ -13,4 +16,20 @@ pub struct Entry {
     pub size: usize,
     // What was corrected, nothing for a write; or why it is refused.
     pub answer: Result<Corrections, EntryFault>,
+}
+
+impl Entry {
+    // Why the entry is refused, where it is.
+    pub fn refusal(&self) -> Option<EntryFault>
+        ensures { result ≡ refusal_of self.now.answer }
+    {
+        self.answer.err()
+    }
+
+    // What was corrected: nothing where the entry is refused.
+    pub fn counts(&self) -> Corrections
+        ensures { result ≡ counts_of self.now.answer }
+    {
+        self.answer.unwrap_or_default()
+    }
 }

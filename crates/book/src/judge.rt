@@ -42,12 +42,8 @@ pub fn judge_entry(file: &[u8], e: usize, start: usize) -> Result<Job, BookFault
     if line.start != start {
         return Err(BookFault::Start { entry });
     }
-    let Some(plan) = listed_plan(line.plan) else {
-        return Err(BookFault::Unlisted { entry });
-    };
-    let Ok(kind) = Kind::try_from(line.kind) else {
-        return Err(BookFault::Kind { entry });
-    };
+    let plan = listed_plan(line.plan).ok_or(BookFault::Unlisted { entry })?;
+    let kind = Kind::try_from(line.kind).map_err(|_| BookFault::Kind { entry })?;
     if !is_allowed(kind, &plan) {
         return Err(BookFault::Kind { entry });
     }

@@ -9,7 +9,7 @@ ghost use Rattle.readings.specs.Samples.{soft_of};
 ghost use Rattle.book.specs.Contents.{count as entry_count};
 ghost use Rattle.book.specs.Judging.{Enough, file_wrong, needs_before, result_length};
 ghost use Rattle.book.specs.Running.{Idle, Reached, Recorded, BookRun, TwoRefusals, outcome, results_before, record_at, read, read_marks, read_soft, first_over, mark_of, signed, samples};
-ghost use Rattle.book.specs.Handing.{FirstOver, LineBlock, RoomToRead, Fit, Done, OnlyLate, Answered, part_after, first_after, ReadEntry};
+ghost use Rattle.book.specs.Handing.{MarkOf, FirstOver, LineBlock, RoomToRead, Fit, Done, OnlyLate, Answered, part_after, first_after, ReadEntry};
 
 use crate::contents::{Kind, read_line};
 use crate::entry::Entry;
@@ -33,7 +33,7 @@ fn write_body(plan: &Plan, body: &[u8], first: &mut [u8], second: &mut [u8], par
     ensures zeros { (first.new ≡ zeros (length first.old)) × (second.new ≡ zeros (length second.old)) }
 {
     load(first, body);
-    let _ = plan.put(first, second, part);
+    plan.put(first, second, part).unwrap();
 }
 
 // Hands up what a read gave: a body from the front of `first` to `part`, or the refusal.
@@ -96,13 +96,14 @@ fn read_marks<R: Reading>(
     hand_up(given, first, part)
 }
 
-// The mark of a byte: 0, 1, and absent for any other.
-fn mark_by_number(byte: u8) -> Option<bool>
-    ensures { result ≡ mark_of byte }
+// The mark of a byte: 0, 1, and 2 for absent; any other byte is none.
+fn mark_by_number(byte: u8) -> Option<Option<bool>>
+    ensures { MarkOf byte result }
 {
     match byte {
-        0 => Some(false),
-        1 => Some(true),
+        0 => Some(Some(false)),
+        1 => Some(Some(true)),
+        2 => Some(None),
         _ => None,
     }
 }
@@ -113,10 +114,7 @@ fn fill_hard(bytes: &[u8], marks: &mut [Option<bool>]) -> Result<(), EntryFault>
     ensures { MatchResult result (λ u. (first_over 0 bytes.now ≡ None) × (marks.new ≡ map mark_of bytes.now)) (λ w. FirstOver bytes.now w) }
 {
     for (i, mark) in marks.iter_mut().enumerate() {
-        if bytes[i] > 2 {
-            return Err(EntryFault::Mark { offset: i as u32 });
-        }
-        *mark = mark_by_number(bytes[i]);
+        *mark = mark_by_number(bytes[i]).ok_or(EntryFault::Mark { offset: i as u32 })?;
     }
     Ok(())
 }
@@ -136,8 +134,9 @@ fn fill_samples(bytes: &[u8], soft: &mut [i8])
     requires { length bytes.now ≡ 2 * length soft.old }
     ensures { soft.new ≡ map soft_of (samples bytes.now) }
 {
+    let (pairs, _) = bytes.as_chunks::<2>();
     for (i, reading) in soft.iter_mut().enumerate() {
-        let sample = i16::from_be_bytes([bytes[2 * i], bytes[2 * i + 1]]);
+        let sample = i16::from_be_bytes(pairs[i]);
         *reading = soft_of_sample(sample);
     }
 }

@@ -17,15 +17,6 @@ loop-w-init g c =
     rw (c.into_iter-w-iterator.ensures.into_iter_gives, c.enumerate-w-items.ensures.source, c.enumerate-w-items.ensures.count, zero-mul c.args.self.now.length, zero-mul (c.args.self.now.length + 2 * c.args.self.now.errors))
     (c.chunks_exact_mut.ensures.size, omega arith, c.chunks_exact_mut.ensures.rest, refl)
 
-pub slice_bounds-decode_word-end : goal.slice_bounds-decode_word-end
-slice_bounds-decode_word-end g c =
-    let s = c.args.self.now in
-    let w = c.loop-w.w-iterator.count in
-    let step = c.in-Some.ensures.steps in
-    let inv = c.loop-w.invariant in
-    let next = next_word (s.length + 2 * s.errors) w s.words c.args.from.now c.in-Some.word.now _ (omega (arith, s.data_low)) c.requires.lengths.0 inv.2 step.0.1.0 (step.0.1.1 ∙ inv.0) in
-    rw step.1 (omega (arith, within w s.words s.length next.below))
-
 pub returns-in_err-count : goal.returns-in_err-count
 returns-in_err-count g c =
     let s = c.args.self.now in

@@ -1,6 +1,7 @@
 -- What one word adds, on either way.
-use Rattle.std.proofs.Common.{◌≡◌, ℕ, zero, suc, ◌+◌, ◌-◌, ◌*◌, ◌<◌, ◌≤◌, List, ◌++◌, length, take, drop, Some, None, Ok, Err, sym, ap, ◌∙◌, subst, ap₂, inl, inr, le_of_eq, le_refl, mul-le-mul, suc-mul, zero-add, add-one, arith, length-append, length-drop}
+use Rattle.std.proofs.Common.{◌≡◌, ℕ, zero, suc, ◌+◌, ◌-◌, ◌*◌, ◌<◌, ◌≤◌, List, ◌++◌, length, take, drop, Some, None, Ok, Err, Option, sym, ap, ◌∙◌, subst, ap₂, inl, inr, le_of_eq, le_refl, mul-le-mul, add-mul, zero-add, add-one, arith, length-append, length-drop}
 use borrow.Rule.Slice.PartMut.{mid_len, mid_of, put_mid}
+use Rattle.std.specs.Option.{ok_or}
 use Rattle.std.proofs.lemmas.Bool.{cases_lt}
 use Rattle.std.proofs.lemmas.List.{take_at, take_all, drop_at, drop-drop}
 use Rattle.std.proofs.lemmas.Slice.{take-put_mid}
@@ -18,21 +19,17 @@ use Rattle.reed_solomon.specs.Coding.{Limits, word, words_encoded, words_decoded
 use Rattle.reed_solomon.specs.WordByWord.{GeneratorRows, Filled, Corrects}
 use Rattle.reed_solomon.specs.Coded.{Answers, word_end, words_answer, small_product}
 
--- one word more, as the code counts
-one_more : (w n : ℕ) → (w + 1) * n ≡ w * n + n
-one_more w n = ap (λ m. m * n) (add-one w) ∙ suc-mul w n
-
 -- a word within a buffer of so many words
 pub within : (w words n : ℕ) → w < words → (w + 1) * n ≤ words * n
-within w words n h = omega (arith, one_more w n, word_end w words n h)
+within w words n h = omega (arith, add-mul w 1 n, word_end w words n h)
 
 -- it is as long as a word
 pub long_part : (n w : ℕ) (xs : List ℕ) → (w + 1) * n ≤ length xs → length (mid_of (w * n) ((w + 1) * n - w * n) xs) ≡ n
-long_part n w xs room = omega (arith, one_more w n, mid_len (w * n) ((w + 1) * n) xs room)
+long_part n w xs room = omega (arith, add-mul w 1 n, mid_len (w * n) ((w + 1) * n) xs room)
 
 -- a word written behind those before it
 take-written : (n w : ℕ) (xs v : List ℕ) → (w + 1) * n ≤ length xs → length v ≡ n → take ((w + 1) * n) (put_mid (w * n) ((w + 1) * n - w * n) xs v) ≡ take (w * n) xs ++ v
-take-written n w xs v room long = take-put_mid (w * n) ((w + 1) * n - w * n) xs v ((w + 1) * n) (omega (arith, one_more w n)) (omega (arith, one_more w n))
+take-written n w xs v room long = take-put_mid (w * n) ((w + 1) * n - w * n) xs v ((w + 1) * n) (omega (arith, add-mul w 1 n)) (omega (arith, add-mul w 1 n))
 
 -- a chunk of the words from w on, and what is left behind it
 pub record NextWord (n w words : ℕ) (xs v behind : List ℕ) : Type 0 where
@@ -47,7 +44,7 @@ next_word n w words xs v behind low all before cut long = record {
     | inr b ↦ absurd (omega (arith, mul-le-mul b (le_refl n), ap length (sym cut ∙ before), length-append v behind, length-drop (w * n) xs))
   ];
   is = sym (take_at v behind n long) ∙ ap (take n) (sym cut ∙ before);
-  left = sym (drop_at v behind n long) ∙ ap (drop n) (sym cut ∙ before) ∙ drop-drop n (w * n) xs ∙ ap (λ m. drop m xs) (sym (one_more w n));
+  left = sym (drop_at v behind n long) ∙ ap (drop n) (sym cut ∙ before) ∙ drop-drop n (w * n) xs ∙ ap (λ m. drop m xs) (omega (arith, add-mul w 1 n));
 }
 
 -- where no chunk is left, all words are read
@@ -56,6 +53,11 @@ all_read n w words xs all before most less = elim (cases_lt w words) [
   | inl b ↦ absurd (omega (arith, word_end w words n b, ap length before, length-drop (w * n) xs))
   | inr b ↦ omega arith
 ]
+
+-- what stands in place of a value that is missing
+pub refusal : {A E : Type 0} {o : Option A} {x y : E} → o ≡ None → Err x ≡ ok_or o y → x ≡ y
+refusal {o = None} none is = cc
+refusal {o = Some a} none is = cc
 
 module _ (f : ByteField) (r k e : ℕ) where
   -- a word that was filled is the code word

@@ -20,13 +20,9 @@ use Rattle.stack.specs.Meaning.{Corrected}
 use Rattle.stack.specs.Rules.{Decodes, StageRule}
 use Rattle.reed_solomon.specs.Coding.{Limits, word, words_encoded, differing, with_word, then_word, words_decoded, coding}
 
--- one word more is n bytes more
-more_words : (w n : ℕ) → suc w * n ≡ w * n + n
-more_words w n = suc-mul w n
-
 -- the end of a word that is among so many
 pub word_end : (w words n : ℕ) → w < words → w * n + n ≤ words * n
-word_end w words n h = subst (λ m. m ≤ words * n) (more_words w n) (mul-le-mul h (le_refl n))
+word_end w words n h = subst (λ m. m ≤ words * n) (suc-mul w n) (mul-le-mul h (le_refl n))
 
 pub length-word : (n w : ℕ) (xs : List ℕ) → w * n + n ≤ length xs → length (word n w xs) ≡ n
 length-word n w xs h = length-take-le n (drop (w * n) xs) (omega (arith, length-drop (w * n) xs))
@@ -36,7 +32,7 @@ bytes_word n w xs h = bytes_take n (drop (w * n) xs) (bytes_drop (w * n) xs h)
 
 -- the words before w and word w
 pub take-word : (n w : ℕ) (xs : List ℕ) → take (w * n) xs ++ word n w xs ≡ take (suc w * n) xs
-take-word n w xs = sym (take-add (w * n) n xs) ∙ ap (λ m. take m xs) (sym (more_words w n))
+take-word n w xs = sym (take-add (w * n) n xs) ∙ ap (λ m. take m xs) (sym (suc-mul w n))
 
 -- the check bytes are as many as they should be, whatever the data
 length_found : (c : ℕ) (found : Option (List ℕ)) → ((xs : List ℕ) → found ≡ Some xs → length xs ≡ c) → length (unwrap_or found (replicate c 0)) ≡ c
@@ -54,17 +50,17 @@ module _ (f : ByteField) (r k e : ℕ) where
   unfolding words_encoded
   length-words_encoded zero x h = sym (zero-mul (k + 2 * e))
   length-words_encoded (suc w) x h =
-      let room : w * k + k ≤ length x = subst (λ m. m ≤ length x) (more_words w k) h in
+      let room : w * k + k ≤ length x = subst (λ m. m ≤ length x) (suc-mul w k) h in
       length-append (words_encoded f r k e w x) (encoded f r (2 * e) (word k w x))
       ∙ ap₂ ◌+◌ (length-words_encoded w x (omega arith)) (length-encoded f r (2 * e) (word k w x) ∙ ap (λ m. m + 2 * e) (length-word k w x room))
-      ∙ sym (more_words w (k + 2 * e))
+      ∙ sym (suc-mul w (k + 2 * e))
 
   -- word v of the code words is the code word of word v
   pub word_of_encoded : (words v : ℕ) (x : List ℕ) → words * k ≤ length x → v < words → word (k + 2 * e) v (words_encoded f r k e words x) ≡ encoded f r (2 * e) (word k v x)
   unfolding words_encoded
   word_of_encoded zero v x h below = absurd (omega arith)
   word_of_encoded (suc w) v x h below =
-      let room : w * k + k ≤ length x = subst (λ m. m ≤ length x) (more_words w k) h in
+      let room : w * k + k ≤ length x = subst (λ m. m ≤ length x) (suc-mul w k) h in
       go (ℕ_discrete v w) (length-words_encoded w x (omega arith)) (length-encoded f r (2 * e) (word k w x) ∙ ap (λ m. m + 2 * e) (length-word k w x room)) (λ b. word_of_encoded w v x (omega arith) b)
     where
       go : Dec (v ≡ w) → length (words_encoded f r k e w x) ≡ w * (k + 2 * e) → length (encoded f r (2 * e) (word k w x)) ≡ k + 2 * e
@@ -84,7 +80,7 @@ module _ (f : ByteField) (r k e : ℕ) where
     unfolding words_encoded
     bytes_words_encoded zero x h b = bytes_nil
     bytes_words_encoded (suc w) x h b =
-        let fits : w * k + k ≤ length x = subst (λ m. m ≤ length x) (more_words w k) h in
+        let fits : w * k + k ≤ length x = subst (λ m. m ≤ length x) (suc-mul w k) h in
         bytes_append (words_encoded f r k e w x) (encoded f r (2 * e) (word k w x)) (bytes_words_encoded w x (omega arith) b)
         (encoded_says f rule r k (2 * e) (word k w x) room (length-word k w x fits) (bytes_word k w x b)).small
 
@@ -120,7 +116,7 @@ module _ (f : ByteField) (r k e : ℕ) where
     with_answers w y None d q ly a = inl refl
     with_answers w y (Some x) d q ly a =
         let it = nearest_some f rule r k e y room ly x q in
-        (length-append d.body x ∙ ap₂ ◌+◌ a.0 it.0 ∙ sym (more_words w k), omega (arith, it.2.near, a.1, more_words w e))
+        (length-append d.body x ∙ ap₂ ◌+◌ a.0 it.0 ∙ sym (suc-mul w k), omega (arith, it.2.near, a.1, suc-mul w e))
 
     then_answers : (w : ℕ) (y : List ℕ) (v : Result Corrected Fault) → length y ≡ k + 2 * e → Answers w v → Answers (suc w) (then_word (with_word w (differing f r e y) (nearest f r k e y)) v)
     then_answers w y (Ok d) ly a = with_answers w y (nearest f r k e y) d refl ly a

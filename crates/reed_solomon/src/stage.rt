@@ -120,10 +120,9 @@ impl<F: Field> ReedSolomon<F> {
         let k = self.length;
         let mut count = 0;
         for (w, word) in from.chunks_exact_mut(k + 2 * self.errors).enumerate() {
-            let Some(more) = self.decode_word(roots, word, &mut to[w * k..(w + 1) * k]) else {
-                return Err(Fault::NoCodeWord { word: w as u32 });
-            };
-            count += more;
+            count += self
+                .decode_word(roots, word, &mut to[w * k..(w + 1) * k])
+                .ok_or(Fault::NoCodeWord { word: w as u32 })?;
         }
         Ok(count)
     }

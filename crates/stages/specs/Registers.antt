@@ -172,6 +172,9 @@ unfolding held lowest_bits
 held-lowest zero x h = omega arith
 held-lowest (suc n) x h = omega (arith, held-lowest n (x / 2) (omega (arith, pow-suc 2 n)), bit_odd x)
 
+pub held_back : {y : ℕ} → y < 32768 → held (lowest_bits 15 y) ≡ y
+held_back {y} h = held-lowest 15 y h
+
 length-lowest : (n x : ℕ) → length (lowest_bits n x) ≡ n
 unfolding lowest_bits
 length-lowest zero x = refl
@@ -188,7 +191,7 @@ lowest-held [] = refl
 lowest-held (b ∷ reg) = ap₂ ◌∷◌ (ap (λ n. n == 1) (odd_held b reg) ∙ bit_is b) (ap (lowest_bits (length reg)) (half_held b reg) ∙ lowest-held reg)
 
 pub held_lowest : {y : ℕ} → y < 32768 → Holds y (lowest_bits 15 y)
-held_lowest {y} h = record { number = sym (held-lowest 15 y h); stages = length-lowest 15 y }
+held_lowest {y} h = record { number = sym (held_back h); stages = length-lowest 15 y }
 
 pub lowest_held : {y : ℕ} {reg : List Bool} → Holds y reg → lowest_bits 15 y ≡ reg
 lowest_held {y} {reg} h = ap (lowest_bits 15) h.number ∙ ap (λ n. lowest_bits n (held reg)) (sym h.stages) ∙ lowest-held reg

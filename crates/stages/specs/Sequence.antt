@@ -42,9 +42,13 @@ continued v (b ∷ bits) = continued (2 * v + bit b) bits
 unfoldable pub byte_of : List Bool → ℕ
 byte_of bits = continued 0 bits
 
--- byte j of a seed's sequence: the sums of steps 8j + 1 to 8j + 8
+-- byte j of a register's sequence: the sums of steps 8j + 1 to 8j + 8
+unfoldable pub key_from : List Bool → ℕ → ℕ
+key_from reg j = byte_of (sums 8 (after (8 * j) reg))
+
+-- byte j of a seed's sequence
 unfoldable pub key : ℕ → ℕ → ℕ
-key seed j = byte_of (sums 8 (after (8 * j) (loaded seed)))
+key seed j = key_from (loaded seed) j
 
 -- the sequence that starts anew at every unit
 unfoldable pub key_at : ℕ → ℕ → ℕ → ℕ

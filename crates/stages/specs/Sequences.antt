@@ -1,17 +1,17 @@
 -- The sequence byte after byte, and a body with the sequence added.
 use Rattle.std.specs.Prelude.{◌≡◌, ℕ, zero, suc, ◌+◌, ◌-◌, ◌*◌, ◌/◌, ◌%◌, ◌<◌, ◌≤◌, Bool, List, [], ◌∷◌, ◌++◌, length, take, drop, bit_xor, slice_index, slice_set}
 use Rattle.std.proofs.Math.Path.{refl, ap, ap₂}
-use Rattle.std.proofs.Common.{sym, ◌∙◌, add-mul, add-zero, le_refl, mod-eq_of_lt, mul-add, mul-le-mul, mul_comm, suc-add, zero-add, add-one, length-drop}
+use Rattle.std.proofs.Common.{sym, ◌∙◌, add-mul, add-zero, le_refl, mul-add, mul-le-mul, mul_comm, suc-add, zero-add, add-one, length-drop}
 use Rattle.std.proofs.Math.Bool.{xor}
 use mathlib.Core.List.{append_assoc, append-nil}
 use borrow.Rule.Slice.PartMut.{put_mid}
-use Rattle.std.proofs.Math.Nat.{div-add-mod, mod-add-mod, mod_self}
+use Rattle.std.proofs.Math.Nat.{div-add-mod}
 use Rattle.std.proofs.lemmas.Nat.{mod-mul-add}
 use Rattle.std.proofs.lemmas.Slice.{take-put_mid, drop-put_mid}
 use native.Mathlib.Omega.{arith}
 use Rattle.std.specs.Int.Bits.{xor_assoc, xor_lt, xor_self, xor_zero_r}
 use Rattle.std.proofs.lemmas.List.{drop_all, drop_more, drop-drop, drop-set-lt, length-take-le, take_all, take-append-drop, take_more_set}
-use Rattle.stages.specs.Sequence.{after, byte_of, continued, feedback, key, key_at, keyed, last_bits, loaded, randomised, stepped, sums}
+use Rattle.stages.specs.Sequence.{after, byte_of, continued, feedback, key, key_at, key_from, keyed, last_bits, loaded, randomised, stepped, sums}
 use Rattle.stages.specs.Registers.{sums_lt}
 
 -- n steps after m steps
@@ -23,18 +23,8 @@ after_add (suc m) n reg = rw (suc-add m n) (after_add m n (stepped reg))
 pub after_more : (j : ℕ) (reg : List Bool) → after 8 (after (8 * j) reg) ≡ after (8 * (j + 1)) reg
 after_more j reg = sym (ap (λ n. after n reg) (mul-add 8 j 1) ∙ after_add (8 * j) 8 reg)
 
--- where the unit starts anew, and where it goes on
-pub anew_place : (a i unit : ℕ) → a % unit ≡ i % unit → a ≡ unit → 0 ≡ i % unit
-anew_place a i unit e same = sym (mod_self unit) ∙ ap (λ n. n % unit) (sym same) ∙ e
-
-pub same_place : (a i unit : ℕ) → a % unit ≡ i % unit → a < unit → a ≡ i % unit
-same_place a i unit e h = sym (mod-eq_of_lt h) ∙ e
-
-pub next_place : (a i unit : ℕ) → a ≡ i % unit → (a + 1) % unit ≡ (i + 1) % unit
-next_place a i unit e = ap (λ n. (n + 1) % unit) e ∙ mod-add-mod i unit 1
-
 key_lt : (seed j : ℕ) → key seed j < 256
-unfolding key
+unfolding key key_from
 key_lt seed j = sums_lt (after (8 * j) (loaded seed))
 
 module _ (k : ℕ → ℕ) where
@@ -136,5 +126,5 @@ unit_end n unit u h = omega (arith, div-add-mod n unit, mul-le-mul h (le_refl un
 
 -- four bytes of zeros
 pub randomised-zeros : randomised 0x4A80 4 (0 ∷ 0 ∷ 0 ∷ 0 ∷ []) ≡ 0x03 ∷ 0xF6 ∷ 0x08 ∷ 0x34 ∷ []
-unfolding randomised keyed key_at key loaded last_bits after sums stepped feedback byte_of continued xor
+unfolding randomised keyed key_at key key_from loaded last_bits after sums stepped feedback byte_of continued xor
 randomised-zeros = refl

@@ -1,11 +1,12 @@
 // The randomiser: a shift register's sequence added to a body.
 ghost use Rattle.std.specs.Prelude.{◌≡◌, ◌%◌, ◌<◌, ◌≤◌, Bool, List, length};
-ghost use Rattle.stages.specs.Sequence.{after, byte_of, key, keyed, loaded, lowest_bits, randomised, sums};
+ghost use Rattle.stages.specs.Sequence.{after, byte_of, held, key_from, keyed, loaded, lowest_bits, randomised, sums};
+ghost use Rattle.stages.specs.Registers.{held_back};
 
 use std::marker::Model;
 
 // A register of fifteen stages, stage 1 as the lowest bit.
-#[derive(Drop)]
+#[derive(Clone, Copy)]
 struct Register {
     stages: u16,
 }
@@ -16,6 +17,10 @@ impl Model for Register {
     ghost view = { λ r. lowest_bits 15 r.stages };
 
     ghost invariant = { λ r. r.stages < 32768 };
+
+    ghost inverse = { λ reg. record { stages = held reg } };
+
+    ghost inverse_ok = { λ r h i. record { stages = held_back h i } };
 }
 
 impl Register {
@@ -40,12 +45,10 @@ impl Register {
     }
 }
 
-// Adds the sequence of a seed to a unit.
-fn add_to_unit(seed: u16, part: &mut [u8])
-    requires { seed < 32768 }
-    ensures { part.new ≡ keyed (key seed) 0 part.old }
+// Adds the sequence of a register to a unit.
+fn add_to_unit(mut register: Register, part: &mut [u8])
+    ensures { part.new ≡ keyed (key_from register) 0 part.old }
 {
-    let mut register = Register::loaded(seed);
     for byte in part.iter_mut() {
         *byte ^= register.next_key();
     }
@@ -58,7 +61,8 @@ pub(crate) fn add_sequence(seed: u16, unit: usize, body: &mut [u8])
     requires whole { length body.old % unit ≡ 0 }
     ensures { body.new ≡ randomised seed unit body.old }
 {
+    let register = Register::loaded(seed);
     for u in 0..body.len() / unit {
-        add_to_unit(seed, &mut body[u * unit..(u + 1) * unit]);
+        add_to_unit(register, &mut body[u * unit..(u + 1) * unit]);
     }
 }

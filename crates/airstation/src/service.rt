@@ -1,6 +1,7 @@
 // Reads whose answers are spent before anything else can fail.
-ghost use Rattle.std.specs.Prelude.{◌≡◌, ◌+◌, ◌≢◌};
+ghost use Rattle.std.specs.Prelude.{◌≡◌, ◌+◌, ◌≢◌, IfOk};
 ghost use Rattle.station.specs.Counting.{owed};
+ghost use Rattle.station.specs.Runs.{one_if_ok};
 
 use crate::desk::Desk;
 use stack::carrier::Carrier;
@@ -38,6 +39,23 @@ pub struct Taken {
     pub is_back: bool,
 }
 
+// Reads a block into the memory of the desk.
+fn read<C: Carrier>(
+    station: &mut Tuned<C>,
+    desk: &mut Desk<C::Reading>,
+) -> Result<Given, ReadRefusal>
+    ensures own { IfOk result (λ g. g.answer.station ≡ station.old.number) }
+    ensures owing { owed station.new.counts ≡ owed station.old.counts + one_if_ok result }
+    ensures same { station.new.number ≡ station.old.number }
+{
+    station.read(
+        &mut desk.first,
+        &mut desk.second,
+        &mut desk.steps,
+        &desk.readings,
+    )
+}
+
 // Spends an answer that the station owes: its block number.
 fn spend<C: Carrier>(station: &mut Tuned<C>, answer: PendingAnswer, verdict: Verdict) -> u32
     requires own { answer.station ≡ station.old.number }
@@ -65,12 +83,7 @@ pub fn take<C: Carrier>(
     let Given {
         corrections,
         answer,
-    } = station.read(
-        &mut desk.first,
-        &mut desk.second,
-        &mut desk.steps,
-        &desk.readings,
-    )?;
+    } = read(station, desk)?;
     let block = spend(station, answer, verdict);
     Ok(Taken {
         block,
@@ -98,12 +111,7 @@ pub fn take_astray<C: Carrier, D: Carrier>(
     let Given {
         corrections: _,
         answer,
-    } = station.read(
-        &mut desk.first,
-        &mut desk.second,
-        &mut desk.steps,
-        &desk.readings,
-    )?;
+    } = read(station, desk)?;
     match other.acknowledge(answer) {
         Ok(block) => Ok(Strayed {
             block,
@@ -137,12 +145,7 @@ pub struct Held {
 pub fn leave_early<C: Carrier>(mut station: Tuned<C>, desk: &mut Desk<C::Reading>) -> Kept<C>
     ensures { owed result.station.counts ≡ owed station.counts }
 {
-    match station.read(
-        &mut desk.first,
-        &mut desk.second,
-        &mut desk.steps,
-        &desk.readings,
-    ) {
+    match read(&mut station, desk) {
         Ok(given) => {
             let Given {
                 corrections: _,

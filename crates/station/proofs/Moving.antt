@@ -1,5 +1,5 @@
 -- What one call adds to the counts.
-use Rattle.std.proofs.Common.{◌≡◌, ℕ, ◌+◌, ◌≤◌, Bool, true, false, cond, eqb, Ok, Err, Result, refl, ap, ◌∙◌, arith}
+use Rattle.std.proofs.Common.{◌≡◌, ℕ, ◌+◌, ◌≤◌, add-zero, Bool, true, false, cond, eqb, Ok, Err, Result, refl, ap, ◌∙◌, arith}
 use Rattle.std.proofs.lemmas.Bool.{eqb-false}
 use Rattle.stack.specs.declared.fault.CarrierFault.{CarrierFault}
 use Rattle.stack.specs.declared.fault.Misfit.{Misfit}
@@ -39,90 +39,33 @@ given_says n b (Ok u) (Ok d) g e =
 given_says n b (Ok u) (Err f) g e = no_both e
 given_says n b (Err r) v g e = no_both e
 
--- every count rises by what the call counts
-pub record Moved {R : Type 0} (c : CarrierMeaning R) (k : Counts) (e : Event R) (k' : Counts) : Type 0 where
-  pub written : k'.written ≡ k.written + writes e
-  pub tried : k'.tried ≡ k.tried + tries e
-  pub given : k'.given ≡ k.given + gives e
-  pub refused : k'.refused ≡ k.refused + refuses e
-  pub acknowledged : k'.acknowledged ≡ k.acknowledged + acknowledges e
-  pub declined : k'.declined ≡ k.declined + declines e
-  pub symbols : k'.symbols ≡ k.symbols + symbols_of c e
-  pub bytes : k'.bytes ≡ k.bytes + bytes_of c e
-
--- a call that counts nothing leaves the counts
-unmoved : {R : Type 0} (c : CarrierMeaning R) (k : Counts) (e : Event R) (k' : Counts) → k' ≡ k → writes e ≡ 0 → tries e ≡ 0 → gives e ≡ 0 → refuses e ≡ 0 → acknowledges e ≡ 0 → declines e ≡ 0
-    → symbols_of c e ≡ 0 → bytes_of c e ≡ 0 → Moved c k e k'
-unmoved c k e k' q w t g r a d s b = record {
-  written = omega (arith, ap (λ x. x.written) q);
-  tried = omega (arith, ap (λ x. x.tried) q);
-  given = omega (arith, ap (λ x. x.given) q);
-  refused = omega (arith, ap (λ x. x.refused) q);
-  acknowledged = omega (arith, ap (λ x. x.acknowledged) q);
-  declined = omega (arith, ap (λ x. x.declined) q);
-  symbols = omega (arith, ap (λ x. x.symbols) q);
-  bytes = omega (arith, ap (λ x. x.bytes) q);
+-- the counts, each raised by what a call counts
+abbrev pub raised : {R : Type 0} → CarrierMeaning R → Counts → Event R → Counts
+raised c k e = record {
+  written = k.written + writes e;
+  tried = k.tried + tries e;
+  given = k.given + gives e;
+  refused = k.refused + refuses e;
+  acknowledged = k.acknowledged + acknowledges e;
+  declined = k.declined + declines e;
+  symbols = k.symbols + symbols_of c e;
+  bytes = k.bytes + bytes_of c e;
 }
 
-pub moved : {R : Type 0} (c : CarrierMeaning R) (n : ℕ) (k : Counts) (e : Event R) (k' : Counts) → Step c n k e k' → Moved c k e k'
-moved c n k (Wrote a b m (Ok u)) k' (p, q) = record {
-  written = omega (arith, ap (λ x. x.written) q);
-  tried = omega (arith, ap (λ x. x.tried) q);
-  given = omega (arith, ap (λ x. x.given) q);
-  refused = omega (arith, ap (λ x. x.refused) q);
-  acknowledged = omega (arith, ap (λ x. x.acknowledged) q);
-  declined = omega (arith, ap (λ x. x.declined) q);
-  symbols = omega (arith, ap (λ x. x.symbols) q);
-  bytes = omega (arith, ap (λ x. x.bytes) q);
-}
-moved c n k (Wrote a b m (Err e)) k' (p, q) = unmoved c k (Wrote a b m (Err e)) k' q refl refl refl refl refl refl refl refl
+pub moved : {R : Type 0} (c : CarrierMeaning R) (n : ℕ) (k : Counts) (e : Event R) (k' : Counts) → Step c n k e k' → k' ≡ raised c k e
+moved c n k (Wrote a b m (Ok u)) k' (p, q) = q ∙ simp add-zero refl
+moved c n k (Wrote a b m (Err e)) k' (p, q) = q ∙ simp add-zero refl
 moved c n k (Read a b t rs (Ok g)) k' (p, q) =
     let says = given_says n (k.tried + 1) _ (c.got rs) g p in
-    record {
-      written = omega (arith, ap (λ x. x.written) q);
-      tried = omega (arith, ap (λ x. x.tried) q);
-      given = omega (arith, ap (λ x. x.given) q);
-      refused = omega (arith, ap (λ x. x.refused) q);
-      acknowledged = omega (arith, ap (λ x. x.acknowledged) q);
-      declined = omega (arith, ap (λ x. x.declined) q);
-      symbols = omega (arith, ap (λ x. x.symbols) q, says.symbols);
-      bytes = omega (arith, ap (λ x. x.bytes) q, says.bytes);
-    }
-moved c n k (Read a b t rs (Err (Carrier (Early f)))) k' (p, q) = unmoved c k (Read a b t rs (Err (Carrier (Early f)))) k' q refl refl refl refl refl refl refl refl
-moved c n k (Read a b t rs (Err Full)) k' (p, q) = unmoved c k (Read a b t rs (Err Full)) k' q refl refl refl refl refl refl refl refl
-moved c n k (Read a b t rs (Err (Carrier (Late f)))) k' (p, q) = record {
-  written = omega (arith, ap (λ x. x.written) q);
-  tried = omega (arith, ap (λ x. x.tried) q);
-  given = omega (arith, ap (λ x. x.given) q);
-  refused = omega (arith, ap (λ x. x.refused) q);
-  acknowledged = omega (arith, ap (λ x. x.acknowledged) q);
-  declined = omega (arith, ap (λ x. x.declined) q);
-  symbols = omega (arith, ap (λ x. x.symbols) q);
-  bytes = omega (arith, ap (λ x. x.bytes) q);
-}
-moved c n k (Acknowledged p (Ok b)) k' (e, q) = record {
-  written = omega (arith, ap (λ x. x.written) q);
-  tried = omega (arith, ap (λ x. x.tried) q);
-  given = omega (arith, ap (λ x. x.given) q);
-  refused = omega (arith, ap (λ x. x.refused) q);
-  acknowledged = omega (arith, ap (λ x. x.acknowledged) q);
-  declined = omega (arith, ap (λ x. x.declined) q);
-  symbols = omega (arith, ap (λ x. x.symbols) q);
-  bytes = omega (arith, ap (λ x. x.bytes) q);
-}
-moved c n k (Acknowledged p (Err u)) k' (e, q) = unmoved c k (Acknowledged p (Err u)) k' q refl refl refl refl refl refl refl refl
-moved c n k (Declined p (Ok b)) k' (e, q) = record {
-  written = omega (arith, ap (λ x. x.written) q);
-  tried = omega (arith, ap (λ x. x.tried) q);
-  given = omega (arith, ap (λ x. x.given) q);
-  refused = omega (arith, ap (λ x. x.refused) q);
-  acknowledged = omega (arith, ap (λ x. x.acknowledged) q);
-  declined = omega (arith, ap (λ x. x.declined) q);
-  symbols = omega (arith, ap (λ x. x.symbols) q);
-  bytes = omega (arith, ap (λ x. x.bytes) q);
-}
-moved c n k (Declined p (Err u)) k' (e, q) = unmoved c k (Declined p (Err u)) k' q refl refl refl refl refl refl refl refl
-moved c n k (Counted m) k' (p, q) = unmoved c k (Counted m) k' q refl refl refl refl refl refl refl refl
+    q ∙ simp (add-zero, says.symbols, says.bytes) refl
+moved c n k (Read a b t rs (Err (Carrier (Early f)))) k' (p, q) = q ∙ simp add-zero refl
+moved c n k (Read a b t rs (Err Full)) k' (p, q) = q ∙ simp add-zero refl
+moved c n k (Read a b t rs (Err (Carrier (Late f)))) k' (p, q) = q ∙ simp add-zero refl
+moved c n k (Acknowledged p (Ok b)) k' (e, q) = q ∙ simp add-zero refl
+moved c n k (Acknowledged p (Err u)) k' (e, q) = q ∙ simp add-zero refl
+moved c n k (Declined p (Ok b)) k' (e, q) = q ∙ simp add-zero refl
+moved c n k (Declined p (Err u)) k' (e, q) = q ∙ simp add-zero refl
+moved c n k (Counted m) k' (p, q) = q ∙ simp add-zero refl
 
 -- reads: tried is given and refused
 pub tried_both : {R : Type 0} (e : Event R) → tries e ≡ gives e + refuses e

@@ -1,11 +1,12 @@
 -- After every list of calls on a tuned station, the counts add up.
 use Rattle.std.proofs.Common.{◌≡◌, ℕ, ◌+◌, List, [], ◌∷◌, ◌++◌, Ok, sym, refl, ap, ◌∙◌, subst, append_assoc, arith}
+use Rattle.std.proofs.lemmas.List.Elements.{All-nil}
 use Rattle.stack.specs.Meaning.{CarrierMeaning}
 use Rattle.station.specs.declared.answer.Given.{Given}
 use Rattle.station.specs.declared.counts.Counts.{Counts}
 use Rattle.station.specs.Events.{Event, Read}
 use Rattle.station.specs.Runs.{total, writes, gives, refuses, tries, acknowledges, declines, symbols_of, bytes_of, State, Next, Run, tuned, RunsAddUp}
-use Rattle.station.proofs.Holding.{Balanced, balanced_next, held_accepted}
+use Rattle.station.proofs.Holding.{Of, Balanced, balanced_next, held_accepted}
 use Rattle.station.proofs.Moving.{given_says, moved}
 
 total_more : {R : Type 0} (f : Event R → ℕ) (e : Event R) (es : List (Event R)) → total f (e ∷ es) ≡ f e + total f es
@@ -55,14 +56,14 @@ rose c n s (e ∷ es) s' (m, x, run) =
     let one = moved c n s.counts e m.counts x.step in
     let rest = rose c n m es s' run in
     record {
-      written = rise_more writes e es _ _ _ one.written rest.written;
-      tried = rise_more tries e es _ _ _ one.tried rest.tried;
-      given = rise_more gives e es _ _ _ one.given rest.given;
-      refused = rise_more refuses e es _ _ _ one.refused rest.refused;
-      acknowledged = rise_more acknowledges e es _ _ _ one.acknowledged rest.acknowledged;
-      declined = rise_more declines e es _ _ _ one.declined rest.declined;
-      symbols = rise_more (symbols_of c) e es _ _ _ one.symbols rest.symbols;
-      bytes = rise_more (bytes_of c) e es _ _ _ one.bytes rest.bytes;
+      written = rise_more writes e es _ _ _ (ap (λ x. x.written) one) rest.written;
+      tried = rise_more tries e es _ _ _ (ap (λ x. x.tried) one) rest.tried;
+      given = rise_more gives e es _ _ _ (ap (λ x. x.given) one) rest.given;
+      refused = rise_more refuses e es _ _ _ (ap (λ x. x.refused) one) rest.refused;
+      acknowledged = rise_more acknowledges e es _ _ _ (ap (λ x. x.acknowledged) one) rest.acknowledged;
+      declined = rise_more declines e es _ _ _ (ap (λ x. x.declined) one) rest.declined;
+      symbols = rise_more (symbols_of c) e es _ _ _ (ap (λ x. x.symbols) one) rest.symbols;
+      bytes = rise_more (bytes_of c) e es _ _ _ (ap (λ x. x.bytes) one) rest.bytes;
     }
 
 balanced : {R : Type 0} (c : CarrierMeaning R) (n : ℕ) (s : State) (es : List (Event R)) (s' : State) → Run c n s es s' → Balanced n s → Balanced n s'
@@ -103,7 +104,7 @@ block_of c n s before after a b t rs g s' run =
     says.answer ∙ ap (λ m. record { station = n; block = m }) same
 
 tuned_balanced : (n : ℕ) → Balanced n tuned
-tuned_balanced n = record { tried_sum = refl; given_sum = refl; written_high = omega arith; tried_high = omega arith; own = tt }
+tuned_balanced n = record { tried_sum = refl; given_sum = refl; written_high = omega arith; tried_high = omega arith; own = All-nil (Of n) }
 
 from_none : (a b : ℕ) → a ≡ 0 + b → a ≡ b
 from_none a b e = omega arith

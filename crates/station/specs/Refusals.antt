@@ -1,9 +1,7 @@
 -- Each refusal's number, depth and place.
 use Rattle.std.specs.Prelude.{◌≡◌}
-use Rattle.stack.specs.declared.fault.Misfit.{Misfit}
-use Rattle.stack.specs.declared.fault.Refusal.{Refusal}
 use Rattle.stack.specs.declared.fault.Report.{Report}
-use Rattle.stack.specs.Faults.{numbered, misfit_report, reported}
+use Rattle.stack.specs.Faults.{numbered}
 use Rattle.station.specs.declared.refusal.Refused.{Refused}
 use Rattle.station.specs.declared.refusal.Refused.TheVariants.{Full, Carrier}
 
@@ -15,14 +13,6 @@ full_report = numbered 9
 abbrev pub refused_report : {E : Type 0} → (E → Report) → Refused E → Report
 refused_report report Full = full_report
 refused_report report (Carrier e) = report e
-
--- every refusal of a write
-abbrev pub write_report : Refused Misfit → Report
-write_report = refused_report misfit_report
-
--- every refusal of a read
-abbrev pub read_report : Refused Refusal → Report
-read_report = refused_report reported
 
 -- an answer that is another station's, or where none is owed
 abbrev pub unanswered_report : Report

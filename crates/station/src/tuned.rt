@@ -158,7 +158,8 @@ impl<C: Carrier> Tuned<C> {
     pub fn count(&self) -> Counts
         ensures { Step (C.Carrier.meaning self.now.carrier) self.now.number self.now.counts (Counted result) self.now.counts }
     {
-        self.counts
+        let Tuned { counts, .. } = self;
+        *counts
     }
 
     // Takes the station out of service, unless it owes answers.

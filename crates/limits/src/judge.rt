@@ -132,10 +132,9 @@ impl Coded {
         let p = self.numbers;
         let steps = 8 * (p.words * (p.length + 2 * p.errors)) + 6;
         let marks = rate.mark_count(steps);
-        match p.rows.checked_mul(p.columns) {
-            Some(room) => p.columns >= 1 && marks <= room && room <= 98304,
-            None => false,
-        }
+        p.rows
+            .checked_mul(p.columns)
+            .is_some_and(|room| p.columns >= 1 && marks <= room && room <= 98304)
     }
 }
 

@@ -7,10 +7,6 @@ pub lift_only : (a b : ℕ) → a < 256 → b < 256 → lift a ≡ lift b → a 
 unfolding lift
 lift_only a b ha hb e = sym (mod-eq_of_lt ha) ∙ ap (λ (x : Byte). x.val) e ∙ mod-eq_of_lt hb
 
-pub lift_val : (a : Byte) → lift a.val ≡ a
-unfolding lift
-lift_val a = same_byte (mod-eq_of_lt a.small)
-
 module _ (f : ByteField) (rule : FieldRule f) where
   pub lift_zero : lift 0 ≡ (lifted f rule).zero
   unfolding lift lifted

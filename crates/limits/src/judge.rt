@@ -50,19 +50,19 @@ impl Coded {
     fn new(p: PlanNumbers) -> Result<Coded, PlanNumber>
         ensures { MatchResult result (λ c. (c.numbers ≡ p) × (first_wrong (code_limits p) ≡ None)) (λ w. first_wrong (code_limits p) ≡ Some w) }
     {
-        if p.field < 1 || p.field > 2 {
+        if !(1..=2).contains(&p.field) {
             return Err(PlanNumber::Field);
         }
         if p.root > 254 {
             return Err(PlanNumber::Root);
         }
-        if p.words < 1 || p.words > 16 {
+        if !(1..=16).contains(&p.words) {
             return Err(PlanNumber::Words);
         }
-        if p.length < 1 || p.length > 253 {
+        if !(1..=253).contains(&p.length) {
             return Err(PlanNumber::Length);
         }
-        if p.errors < 1 || p.errors > 16 || p.length + 2 * p.errors > 255 {
+        if !(1..=16).contains(&p.errors) || p.length + 2 * p.errors > 255 {
             return Err(PlanNumber::Errors);
         }
         Ok(Coded { numbers: p })
@@ -132,10 +132,9 @@ impl Coded {
         let p = self.numbers;
         let steps = 8 * (p.words * (p.length + 2 * p.errors)) + 6;
         let marks = rate.mark_count(steps);
-        match p.rows.checked_mul(p.columns) {
-            Some(room) => p.columns >= 1 && marks <= room && room <= 98304,
-            None => false,
-        }
+        p.rows
+            .checked_mul(p.columns)
+            .is_some_and(|room| p.columns >= 1 && marks <= room && room <= 98304)
     }
 }
 

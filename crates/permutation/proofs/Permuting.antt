@@ -62,8 +62,3 @@ module _ {T : Type 0} (a : Arrangement) (law : Rearranges a) (xs : List T) (many
 pub arranged_below : (a : Arrangement) → Rearranges a → (xs : List ℕ) (b : ℕ) → length xs ≡ size a → ((k : ℕ) → get_or xs k 0 < b) → (k : ℕ) → get_or (arranged a xs) k 0 < b
 unfolding arranged
 arranged_below a law xs b many = picked_below a.source (size a) xs b (source_inside a law xs many)
-
--- small numbers stay small on the way back
-pub restored_below : (a : Arrangement) → Rearranges a → (xs : List ℕ) (b : ℕ) → length xs ≡ size a → ((k : ℕ) → get_or xs k 0 < b) → (k : ℕ) → get_or (restored a xs) k 0 < b
-unfolding restored
-restored_below a law xs b many = picked_below a.place (size a) xs b (place_inside a law xs many)

@@ -40,6 +40,7 @@ impl Grid {
     pub fn len(&self) -> usize
         ensures { result ≡ self.now.rows * self.now.columns }
     {
-        self.rows * self.columns
+        let Grid { rows, columns } = *self;
+        rows * columns
     }
 }

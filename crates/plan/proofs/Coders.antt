@@ -19,7 +19,7 @@ use Rattle.limits.specs.declared.numbers.PlanNumbers.{PlanNumbers}
 use Rattle.plan.specs.Coders.{check_meaning, randomiser_meaning, code_meaning, interleaver_meaning, stage_list, CodeOf, low_meaning, coder_meaning, CoderFits, Coded, Unfitting}
 use Rattle.limits.specs.Limits.{data_length, word_length, coded_length, body_length}
 use Rattle.plan.specs.Stacks.{check_part, randomiser_part, code_part, plan_stages, plan_on}
-use Rattle.plan.proofs.Standing.{stack_append, with_stage_list, stands_meets, code_stand, random_stand, plan_stand}
+use Rattle.plan.proofs.Standing.{stack_append, with_stage_list, stands_meets, random_stand, plan_stand}
 use Rattle.limits.proofs.Within.{Sound}
 
 -- what is made within its limits is there
@@ -75,14 +75,6 @@ meets_on meaning s xs ss c m rule below stand high e is =
     (stands_meets meaning s ss c (stacks_compose c rule ss below low) (subst (λ ys. Stand (ys ++ ss) c) (sym e) stand) (subst (λ ys. c.height + length (ys ++ ss) ≤ 32) (sym e) high))
 
 module _ {R : Type 0} (p : PlanNumbers) (unit : ℕ) (s : Sound p) (c : CarrierMeaning R) (rule : CarrierRule c) (meets : c.body ≡ coded_length p) (high : c.height + length (plan_stages p unit) ≤ 32) where
-  rest_high : c.height + length (randomiser_part p unit ++ code_part p) ≤ 32
-  rest_high = omega (arith, length-append (check_part p) (randomiser_part p unit ++ code_part p))
-
-  pub randomiser_meets : (randomiser : Option Randomiser) (m : CarrierMeaning R) → stage_list randomiser_meaning randomiser ≡ randomiser_part p unit → m ≡ stack_of (code_part p) c
-      → MeetsIfAny randomiser_meaning randomiser m
-  randomiser_meets randomiser m e is =
-      meets_on randomiser_meaning randomiser (randomiser_part p unit) (code_part p) c m rule (code_stand p unit s c meets) (random_stand p unit s c meets) rest_high e is
-
   pub check_meets : (check : Option CheckByte) (m : CarrierMeaning R) → stage_list check_meaning check ≡ check_part p → m ≡ stack_of (randomiser_part p unit ++ code_part p) c
       → MeetsIfAny check_meaning check m
   check_meets check m e is =

@@ -66,7 +66,7 @@ module _ (p : PlanNumbers) (unit : ℕ) (s : Sound p) where
   block_rule = interleaving_rule p.words (word_length p) s.code.words_low (omega (arith, s.code.length_low)) (omega (arith, coded_high p s))
 
   module _ {R : Type 0} (c : CarrierMeaning R) (meets : c.body ≡ coded_length p) where
-    pub code_stand : Stand (code_part p) c
+    code_stand : Stand (code_part p) c
     unfolding Stand top_body
     code_stand = (code_rule, refl, (block_rule, sym meets, tt))
 
@@ -121,11 +121,7 @@ module _ (p : PlanNumbers) (unit : ℕ) (s : Sound p) where
         go false true = omega (arith, more)
         go false false = omega (arith, more)
 
--- how many stages a plan has
-
-pub code_count : (p : PlanNumbers) → length (code_part p) ≡ 2
-code_count p = refl
-
+-- how many stages a plan has at most
 pub stage_count_high : (p : PlanNumbers) (unit : ℕ) → length (plan_stages p unit) ≤ 4
 stage_count_high p unit = go (eqb p.check 0) (eqb p.seed 0)
   where

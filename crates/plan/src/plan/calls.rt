@@ -74,9 +74,7 @@ impl Plan {
     ) -> Result<Corrections, PlanRefusal>
         ensures { PlanGet (on_bare self.now.numbers) self.now.numbers ((bare_plan self.now.numbers self.now.unit).got readings.now) first.old second.old steps.old readings.now result first.new second.new steps.new }
     {
-        let Some(bare) = self.bare() else {
-            return Err(PlanRefusal::OtherCarrier);
-        };
+        let bare = self.bare().ok_or(PlanRefusal::OtherCarrier)?;
         let counts = self.get_on(bare, first, second, steps, readings)?;
         Ok(counts)
     }
@@ -91,9 +89,7 @@ impl Plan {
     ) -> Result<Corrections, PlanRefusal>
         ensures { PlanGet (not (on_bare self.now.numbers)) self.now.numbers ((line_plan R.Reading.cost R.Reading.clean self.now.numbers self.now.unit).got readings.now) first.old second.old steps.old readings.now result first.new second.new steps.new }
     {
-        let Some(line) = self.line::<R>() else {
-            return Err(PlanRefusal::OtherCarrier);
-        };
+        let line = self.line::<R>().ok_or(PlanRefusal::OtherCarrier)?;
         let counts = self.get_on(line, first, second, steps, readings)?;
         Ok(counts)
     }

@@ -19,10 +19,7 @@ use stages::randomiser::Randomiser;
 type Low<C> = Stack<ReedSolomon<AnyField>, Stack<Interleaver, C>>;
 
 // Check byte, randomiser, outer code and block interleaver on a carrier; the first two may be left out.
-pub type Coder<C> = Optional<
-    CheckByte,
-    Optional<Randomiser, Stack<ReedSolomon<AnyField>, Stack<Interleaver, C>>>,
->;
+pub type Coder<C> = Optional<CheckByte, Optional<Randomiser, Low<C>>>;
 
 // The carrier at the foot of two stages.
 fn foot<C>(stack: Low<C>) -> C

@@ -4,7 +4,7 @@ use mathlib.Core.Path.{fun_ext}
 use lib.Bits.{bit_xor, xor_zero_r, xor_assoc, xor_comm, xor_self}
 use lib.Lanes.{Each1, fold_l}
 use Rattle.std.proofs.lemmas.List.{get_or_past, length-take-le}
-use Rattle.std.proofs.lemmas.Nat.{pow_below}
+use Rattle.std.proofs.lemmas.Nat.{pow_below, xor_of_8}
 use Rattle.std.proofs.lemmas.Bool.{cases_lt}
 use Rattle.galois.specs.Bytes.{ByteField, FieldRule}
 use Rattle.outer.specs.declared.lanes.Row.{Row}
@@ -12,7 +12,7 @@ use Rattle.outer.specs.ByteLists.{Bytes}
 use Rattle.outer.specs.Decoding.{applied}
 use Rattle.outer.specs.Lanes.{lane, at, Are}
 use Rattle.outer.specs.Cutting.{from, polynomial, Vector, Moved, FirstFailing, factor, Cleared, Leads, Cut, Power, Powers, Annihilator}
-use Rattle.outer.proofs.Bytewise.{xor_small, bytes_take}
+use Rattle.outer.proofs.Bytewise.{bytes_take}
 use Rattle.outer.proofs.Zeros.{get_or-zeros, bytes_zeros}
 use Rattle.outer.proofs.Corrections.{bytes_set}
 use Rattle.outer.proofs.Equations.{mul_zero, zero_mul, more_of_both}
@@ -73,7 +73,7 @@ module _ (f : ByteField) where
   pub applied_small : FieldRule f → (p s : List ℕ) (j : ℕ) → Bytes p → Bytes s → applied f p s j < 256
   unfolding applied
   applied_small rule [] s j hp hs = omega arith
-  applied_small rule (c ∷ p) s j hp hs = xor_small _ _ (rule.mul_small c (lane s j) (hp 0) (hs j)) (applied_small rule p s (j + 1) (λ i. hp (suc i)) hs)
+  applied_small rule (c ∷ p) s j hp hs = xor_of_8 _ _ (rule.mul_small c (lane s j) (hp 0) (hs j)) (applied_small rule p s (j + 1) (λ i. hp (suc i)) hs)
 
   applied-zeros : FieldRule f → (p s : List ℕ) (j : ℕ) → Bytes s → ((l : ℕ) → lane p l ≡ 0) → applied f p s j ≡ 0
   unfolding applied

@@ -3,7 +3,7 @@ use Rattle.std.proofs.Common.{◌≡◌, ℕ, ◌+◌, ◌<◌, Bool, cond, not,
 use Rattle.std.proofs.lemmas.Nat.{xor_of_8}
 use lib.Bits.{bit_xor}
 use Rattle.std.specs.List.{range_with_len}
-use Rattle.std.proofs.lemmas.List.FromFn.{map-range_with_len_more}
+use Rattle.std.proofs.lemmas.List.FromFn.{filter_of_map_range_with_len_more}
 use Rattle.std.proofs.lemmas.List.Elements.{filter-append}
 use Rattle.std.proofs.lemmas.List.{append-nil, take_more, map-id}
 use Rattle.std.proofs.lemmas.Bool.{eq-eqb, ne_eqb}
@@ -15,8 +15,9 @@ use Rattle.outer.proofs.Passes.{differences_small}
 -- the places below i + 1 that a test keeps
 pub kept_push : (t : ℕ → Bool) (i : ℕ) → filter t (range_with_len 0 (i + 1)) ≡ filter t (range_with_len 0 i) ++ cond (t i) (i ∷ []) []
 kept_push t i =
-    ap (filter t) (sym (map-id (range_with_len 0 (i + 1))) ∙ map-range_with_len_more (λ (p : ℕ). p) 0 i i (zero-add i) ∙ ap (λ l. l ++ i ∷ []) (map-id (range_with_len 0 i)))
-    ∙ filter-append t (range_with_len 0 i) (i ∷ [])
+    ap (filter t) (sym (map-id (range_with_len 0 (i + 1))))
+    ∙ filter_of_map_range_with_len_more t (λ p. p) 0 i i (zero-add i)
+    ∙ ap (λ l. filter t l ++ cond (t i) (i ∷ []) []) (map-id (range_with_len 0 i))
 
 pub others_push : (p q : ℕ) (zs : List ℕ) → ¬ (q ≡ p) → others p (zs ++ q ∷ []) ≡ others p zs ++ q ∷ []
 unfolding others is_other

@@ -8,7 +8,7 @@ use std::array;
 use std::simd::prelude::*;
 
 // One multiple of each of 32 constants.
-#[derive(Clone, Copy)]
+#[derive(Clone, Copy, Default)]
 pub struct Row {
     pub lanes: u8x32,
 }
@@ -57,7 +57,7 @@ impl Multiples {
 fn multiple<F: Field>(field: &F, constants: &[u8; 32], by: u8) -> Row
     ensures { (l : ℕ) → l < 32 → lane result.lanes l ≡ (F.Field.meaning field.now).mul (lane constants.now l) by }
 {
-    let lanes = constants.map(|c| field.mul(c, by));
+    let lanes = array::from_fn(|l| field.mul(constants[l], by));
     Row {
         lanes: u8x32::from_array(lanes),
     }

@@ -1,9 +1,10 @@
 -- Polynomials cut by equations.
-use Rattle.std.proofs.Common.{◌≡◌, ℕ, zero, suc, ◌+◌, ◌-◌, ◌^◌, ◌<◌, ◌≤◌, ◌≢◌, ◌⊎◌, List, [], ◌∷◌, length, get_or, take, set, replicate, sym, refl, ap, ◌∙◌, subst, ap₂, inl, inr, add-zero, zero-add, arith, length-set, get_or-set_other, get_or-take, get_or-set_same, w8, Fits, below_more}
+use Rattle.std.proofs.Common.{◌≡◌, ℕ, zero, suc, ◌+◌, ◌-◌, ◌^◌, ◌<◌, ◌≤◌, ◌≢◌, ◌⊎◌, List, [], ◌∷◌, ◌++◌, length, get_or, take, set, replicate, sym, refl, ap, ◌∙◌, subst, ap₂, inl, inr, add-zero, zero-add, arith, length-set, get_or-set_other, get_or-take, get_or-set_same, w8, Fits, below_more}
 use mathlib.Core.Path.{fun_ext}
 use lib.Bits.{bit_xor, xor_zero_r, xor_assoc, xor_comm, xor_self}
 use lib.Lanes.{Each1, fold_l}
-use Rattle.std.proofs.lemmas.List.{get_or_past, length-take-le}
+use Rattle.std.proofs.Math.Seq.{get_or-append_seam}
+use Rattle.std.proofs.lemmas.List.{get_or_append_left, get_or_past, length-take-le}
 use Rattle.std.proofs.lemmas.Nat.{pow_below, xor_of_8}
 use Rattle.std.proofs.lemmas.Bool.{cases_lt}
 use Rattle.galois.specs.Bytes.{ByteField, FieldRule}
@@ -24,6 +25,14 @@ set_more P d xs i x h here below =
     below_more (λ k. P k (get_or (set xs i x) k d)) i
     (λ k l. let other : k ≢ i = omega arith in subst (P k) (sym (get_or-set_other xs i k x d other)) (below k l))
     (subst (P i) (sym (get_or-set_same xs i x d h)) here)
+
+-- and after it is pushed
+pub push_more : {A : Type 0} (P : ℕ → A → Type 0) (d : A) (xs : List A) (i : ℕ) (x : A) → length xs ≡ i → P i x → ((k : ℕ) → k < i → P k (get_or xs k d))
+    → (k : ℕ) → k < i + 1 → P k (get_or (xs ++ x ∷ []) k d)
+push_more P d xs i x e here below =
+    below_more (λ k. P k (get_or (xs ++ x ∷ []) k d)) i
+    (λ k l. subst (P k) (sym (get_or_append_left xs (x ∷ []) d k (omega arith))) (below k l))
+    (subst (P i) (sym (ap (λ j. get_or (xs ++ x ∷ []) j d) (sym e) ∙ get_or-append_seam xs x [] d)) here)
 
 bytes_fit : (v : List ℕ) → Each1 (Fits w8) v → Bytes v
 bytes_fit [] h k = omega arith

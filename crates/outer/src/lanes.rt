@@ -14,7 +14,7 @@ pub struct Row {
 }
 
 // The multiples of 32 constants by the bytes 1, 2, 4, .. , 128.
-#[derive(Clone, Copy)]
+#[derive(Clone, Copy, Default)]
 pub struct Multiples {
     pub rows: [Row; 8],
 }

@@ -1,8 +1,9 @@
 -- A byte as the sum of its bits.
-use Rattle.std.proofs.Common.{◌≡◌, ℕ, ◌+◌, ◌-◌, ◌*◌, ◌/◌, ◌%◌, ◌^◌, ◌<◌, ◌≤◌, cond, eqb, ◌⊎◌, List, sym, ap, ◌∙◌, inl, inr, mod-lt, add_comm, one-mul, zero-mul, arith, pow_pos, pow-add, ne_eqb}
+use Rattle.std.proofs.Common.{◌≡◌, ℕ, ◌+◌, ◌*◌, ◌/◌, ◌%◌, ◌^◌, ◌<◌, ◌≤◌, cond, eqb, ◌⊎◌, List, sym, ap, ◌∙◌, inl, inr, mod-lt, add_comm, one-mul, zero-mul, arith, pow_pos, ne_eqb}
 use native.Mathlib.Nat.{mod-one}
-use lib.Bits.{bit_xor, bit_and, xor_zero_r, xor_comm, xor_shifted, and_high}
+use lib.Bits.{bit_xor, bit_and, xor_zero_r, xor_comm, xor_shifted}
 use Rattle.std.proofs.lemmas.Nat.{mod-pow-add, pow_below}
+use Rattle.std.proofs.lemmas.Nat.Bits.{and_pow}
 use Rattle.std.proofs.lemmas.Bool.{cases_lt}
 use Rattle.galois.specs.Bytes.{ByteField, FieldRule}
 use Rattle.outer.specs.Lanes.{lane}
@@ -12,12 +13,6 @@ use Rattle.outer.proofs.Equations.{mul_zero}
 abbrev pub low : List ℕ → ℕ → ℕ → ℕ
 low v i l = lane v l % 2 ^ i
 
--- one bit of a number, in its place
-and_bit : (b i : ℕ) → bit_and b (2 ^ i) ≡ b / 2 ^ i % 2 * 2 ^ i
-and_bit b i =
-    let alone : 2 ^ i ≡ 2 ^ (1 + i) - 2 ^ i = omega (arith, pow-add 2 1 i) in
-    ap (bit_and b) alone ∙ and_high b 1 i
-
 -- one bit more from below
 mod_more : (b i : ℕ) → b % 2 ^ (i + 1) ≡ bit_xor (b / 2 ^ i % 2 * 2 ^ i) (b % 2 ^ i)
 mod_more b i =
@@ -26,7 +21,7 @@ mod_more b i =
 -- the product of one bit more
 pub mul_more : (f : ByteField) (c b i : ℕ) → FieldRule f → c < 256 → i < 8
     → f.mul c (b % 2 ^ (i + 1)) ≡ bit_xor (f.mul c (b % 2 ^ i)) (cond (eqb (bit_and b (2 ^ i)) 0) 0 (f.mul c (2 ^ i)))
-mul_more f c b i rule hc hi = go (b / 2 ^ i % 2) (and_bit b i) (mod_more b i) (cases_lt (b / 2 ^ i % 2) 1) (mod-lt (b / 2 ^ i) (omega arith))
+mul_more f c b i rule hc hi = go (b / 2 ^ i % 2) (and_pow b i) (mod_more b i) (cases_lt (b / 2 ^ i % 2) 1) (mod-lt (b / 2 ^ i) (omega arith))
   where
     r : ℕ
     r = b % 2 ^ i

@@ -1,15 +1,11 @@
 -- Bytes, lists of bytes, and the field's operations on them.
 use Rattle.std.proofs.Common.{◌≡◌, ℕ, zero, suc, ◌-◌, ◌<◌, ◌≤◌, List, [], ◌∷◌, ◌++◌, take, drop, sym, ap, ◌∙◌, arith}
-use lib.Bits.{bit_xor, xor_lt}
 use Rattle.galois.proofs.Lifts.{lift_only, lift_zero, lift_one, lift_mul}
 use Rattle.galois.specs.Bytes.{lift, ByteField, FieldRule, lifted, power, raised}
 use Rattle.outer.specs.ByteLists.{Bytes}
 use Rattle.outer.specs.Decoding.{locator}
 use Rattle.outer.proofs.Series.{pow}
 use Rattle.outer.proofs.Moments.{pow_not_zero}
-
-pub xor_small : (a b : ℕ) → a < 256 → b < 256 → bit_xor a b < 256
-xor_small a b h k = xor_lt 8 a b h k
 
 pub bytes_nil : Bytes []
 bytes_nil k = omega arith

@@ -1,6 +1,7 @@
 -- What the contracts of encoding and correcting come to.
 use Rattle.std.proofs.Common.{◌≡◌, ℕ, ◌+◌, ◌-◌, ◌*◌, ◌≤◌, List, length, take, Some, None, Option, sym, refl, ap, ◌∙◌, subst, arith}
 use Rattle.std.proofs.lemmas.List.{length-take-le}
+use Rattle.std.proofs.lemmas.Option.{same_Some}
 use Rattle.galois.specs.Bytes.{ByteField, FieldRule}
 use Rattle.outer.specs.declared.lanes.Row.{Row}
 use Rattle.outer.specs.ByteLists.{Bytes}
@@ -10,7 +11,6 @@ use Rattle.outer.specs.Lanes.{Are}
 use Rattle.outer.specs.Nearest.{nearest, Near}
 use Rattle.outer.specs.Words.{CodeWord, distance, encoded}
 use Rattle.outer.proofs.Bytewise.{bytes_take}
-use Rattle.outer.proofs.Exhausted.{same_answer}
 use Rattle.outer.proofs.NearWords.{Encoded, encoded_says, encoded-front, nearest_is, nearest_some}
 
 module _ (f : ByteField) (rule : FieldRule f) where
@@ -45,7 +45,7 @@ module _ (f : ByteField) (rule : FieldRule f) where
         let k = length w - 2 * e in
         let size : length w ≡ k + 2 * e = omega arith in
         let here = subst (λ m. Near f r e m w c) size near in
-        let front : take k v ≡ take k c = same_answer (sym it.found ∙ nearest_is f rule r k e w (omega arith) size c here) in
+        let front : take k v ≡ take k c = same_Some _ _ (sym it.found ∙ nearest_is f rule r k e w (omega arith) size c here) in
         let same : v ≡ c = it.whole ∙ ap (encoded f r (2 * e)) front ∙ encoded-front f rule r k (2 * e) c (omega arith) here.long here.small here.code in
         (ap Some (it.counted ∙ ap (λ u. distance u w) same), same)
 

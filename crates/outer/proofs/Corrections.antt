@@ -1,5 +1,6 @@
 -- A word with values added at some places.
 use Rattle.std.proofs.Common.{◌≡◌, ℕ, zero, suc, ◌+◌, ◌<◌, ◌≤◌, Bool, true, false, cond, not, ◌&&◌, eqb, List, [], ◌∷◌, length, get_or, set, filter, sym, refl, ap, ◌∙◌, arith}
+use Rattle.std.proofs.lemmas.Nat.{xor_of_8}
 use native.Mathlib.Decide.{ℕ_discrete}
 use lib.Bits.{bit_xor, xor_zero_r, xor_assoc, xor_self, xor_zero_l}
 use Rattle.std.specs.List.{range_with_len}
@@ -8,7 +9,7 @@ use Rattle.std.proofs.lemmas.Bool.{eq-eqb, ne_eqb}
 use Rattle.outer.specs.ByteLists.{Bytes}
 use Rattle.outer.specs.Words.{distance}
 use Rattle.outer.specs.Decoding.{corrected, errors}
-use Rattle.outer.proofs.Bytewise.{bytes_cons, xor_small}
+use Rattle.outer.proofs.Bytewise.{bytes_cons}
 use Rattle.outer.proofs.Kept.{kept_same, kept_both}
 use Rattle.outer.proofs.Distances.{distance_kept}
 use Rattle.outer.proofs.Places.{all_places}
@@ -37,7 +38,7 @@ module _ (v : ℕ → ℕ) where
   unfolding corrected
   bytes_corrected w [] h k = k
   bytes_corrected w (p ∷ ps) h k =
-      bytes_corrected (set w p (bit_xor (get_or w p 0) (v p))) ps h (bytes_set w p (bit_xor (get_or w p 0) (v p)) (xor_small _ _ (k p) (h p)) k)
+      bytes_corrected (set w p (bit_xor (get_or w p 0) (v p))) ps h (bytes_set w p (bit_xor (get_or w p 0) (v p)) (xor_of_8 _ _ (k p) (h p)) k)
 
   pub errors_kept : (ps : List ℕ) → errors v ps ≡ length (filter (λ p. not (eqb (v p) 0)) ps)
   unfolding errors

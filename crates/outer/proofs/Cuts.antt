@@ -1,10 +1,11 @@
 -- Polynomials cut by equations.
-use Rattle.std.proofs.Common.{◌≡◌, ℕ, zero, suc, ◌+◌, ◌-◌, ◌^◌, ◌<◌, ◌≤◌, ◌≢◌, ◌⊎◌, List, [], ◌∷◌, length, get_or, take, set, replicate, sym, refl, ap, ◌∙◌, subst, ap₂, inl, inr, add-zero, zero-add, arith, length-set, get_or-set_other, get_or-take, get_or-set_same, w8, Fits, below_more}
+use Rattle.std.proofs.Common.{◌≡◌, ℕ, zero, suc, ◌+◌, ◌-◌, ◌^◌, ◌<◌, ◌≤◌, ◌≢◌, ◌⊎◌, List, [], ◌∷◌, ◌++◌, length, get_or, take, set, replicate, sym, refl, ap, ◌∙◌, subst, ap₂, inl, inr, add-zero, zero-add, arith, length-set, get_or-set_other, get_or-take, get_or-set_same, w8, Fits, below_more}
 use mathlib.Core.Path.{fun_ext}
 use lib.Bits.{bit_xor, xor_zero_r, xor_assoc, xor_comm, xor_self}
 use lib.Lanes.{Each1, fold_l}
-use Rattle.std.proofs.lemmas.List.{get_or_past, length-take-le}
-use Rattle.std.proofs.lemmas.Nat.{pow_below}
+use Rattle.std.proofs.Math.Seq.{get_or-append_seam}
+use Rattle.std.proofs.lemmas.List.{get_or_append_left, get_or_past, length-take-le}
+use Rattle.std.proofs.lemmas.Nat.{pow_below, xor_of_8}
 use Rattle.std.proofs.lemmas.Bool.{cases_lt}
 use Rattle.galois.specs.Bytes.{ByteField, FieldRule}
 use Rattle.outer.specs.declared.lanes.Row.{Row}
@@ -12,7 +13,7 @@ use Rattle.outer.specs.ByteLists.{Bytes}
 use Rattle.outer.specs.Decoding.{applied}
 use Rattle.outer.specs.Lanes.{lane, at, Are}
 use Rattle.outer.specs.Cutting.{from, polynomial, Vector, Moved, FirstFailing, factor, Cleared, Leads, Cut, Power, Powers, Annihilator}
-use Rattle.outer.proofs.Bytewise.{xor_small, bytes_take}
+use Rattle.outer.proofs.Bytewise.{bytes_take}
 use Rattle.outer.proofs.Zeros.{get_or-zeros, bytes_zeros}
 use Rattle.outer.proofs.Corrections.{bytes_set}
 use Rattle.outer.proofs.Equations.{mul_zero, zero_mul, more_of_both}
@@ -24,6 +25,14 @@ set_more P d xs i x h here below =
     below_more (λ k. P k (get_or (set xs i x) k d)) i
     (λ k l. let other : k ≢ i = omega arith in subst (P k) (sym (get_or-set_other xs i k x d other)) (below k l))
     (subst (P i) (sym (get_or-set_same xs i x d h)) here)
+
+-- and after it is pushed
+pub push_more : {A : Type 0} (P : ℕ → A → Type 0) (d : A) (xs : List A) (i : ℕ) (x : A) → length xs ≡ i → P i x → ((k : ℕ) → k < i → P k (get_or xs k d))
+    → (k : ℕ) → k < i + 1 → P k (get_or (xs ++ x ∷ []) k d)
+push_more P d xs i x e here below =
+    below_more (λ k. P k (get_or (xs ++ x ∷ []) k d)) i
+    (λ k l. subst (P k) (sym (get_or_append_left xs (x ∷ []) d k (omega arith))) (below k l))
+    (subst (P i) (sym (ap (λ j. get_or (xs ++ x ∷ []) j d) (sym e) ∙ get_or-append_seam xs x [] d)) here)
 
 bytes_fit : (v : List ℕ) → Each1 (Fits w8) v → Bytes v
 bytes_fit [] h k = omega arith
@@ -73,7 +82,7 @@ module _ (f : ByteField) where
   pub applied_small : FieldRule f → (p s : List ℕ) (j : ℕ) → Bytes p → Bytes s → applied f p s j < 256
   unfolding applied
   applied_small rule [] s j hp hs = omega arith
-  applied_small rule (c ∷ p) s j hp hs = xor_small _ _ (rule.mul_small c (lane s j) (hp 0) (hs j)) (applied_small rule p s (j + 1) (λ i. hp (suc i)) hs)
+  applied_small rule (c ∷ p) s j hp hs = xor_of_8 _ _ (rule.mul_small c (lane s j) (hp 0) (hs j)) (applied_small rule p s (j + 1) (λ i. hp (suc i)) hs)
 
   applied-zeros : FieldRule f → (p s : List ℕ) (j : ℕ) → Bytes s → ((l : ℕ) → lane p l ≡ 0) → applied f p s j ≡ 0
   unfolding applied

@@ -1,5 +1,6 @@
 -- The passes for an error's value, lane by lane, and the divisor.
 use Rattle.std.proofs.Common.{◌≡◌, ℕ, ◌+◌, ◌-◌, ◌*◌, ◌<◌, ◌≤◌, ◌⊎◌, List, [], ◌∷◌, ◌++◌, length, get_or, take, sym, refl, ap, ◌∙◌, subst, ap₂, inl, inr, add_comm, arith}
+use Rattle.std.proofs.lemmas.Nat.{xor_of_8}
 use lib.Bits.{bit_xor}
 use Rattle.std.proofs.lemmas.List.{take_more, get_or_past}
 use Rattle.std.proofs.lemmas.Bool.{cases_lt}
@@ -7,7 +8,7 @@ use Rattle.galois.specs.Bytes.{ByteField, FieldRule, power}
 use Rattle.outer.specs.Cutting.{Moved}
 use Rattle.outer.specs.Lanes.{lane}
 use Rattle.outer.specs.Decoding.{locator, others, sequence, passed, passes, differences, error_value}
-use Rattle.outer.proofs.Bytewise.{xor_small, power_small, locator_small}
+use Rattle.outer.proofs.Bytewise.{power_small, locator_small}
 use Rattle.outer.proofs.Equations.{mul_zero}
 use Rattle.outer.proofs.Passes.{differences_small}
 use Rattle.outer.proofs.Turns.{others_push, others_same, passes_push, differences_push}
@@ -60,7 +61,7 @@ module _ (f : ByteField) (rule : FieldRule f) where
         record {
           lanes = λ l. lane-passed x sums t (passes f n qs (sequence s)) hx hs ht it.lanes next l ∙ sym (ap (λ u. u l) (passes_push f n qs q (sequence s)));
           divides = e ∙ ap (λ v. f.mul v (bit_xor y x)) it.divides
-              ∙ rule.mul_assoc _ _ _ (power_small f rule ((n - 1 - p) * r)) (differences_small f rule n qs y hy) (xor_small y x hy hx)
+              ∙ rule.mul_assoc _ _ _ (power_small f rule ((n - 1 - p) * r)) (differences_small f rule n qs y hy) (xor_of_8 y x hy hx)
               ∙ ap (f.mul (power f ((n - 1 - p) * r))) (sym (differences_push f rule n qs q y hy));
         }
 

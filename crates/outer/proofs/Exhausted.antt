@@ -3,15 +3,13 @@ use Rattle.std.proofs.Common.{◌≡◌, ℕ, zero, suc, ◌<◌, Bool, true, fa
 use native.Mathlib.Decide.{ℕ_discrete}
 use Rattle.std.proofs.lemmas.List.{nil_from_length}
 use Rattle.std.proofs.lemmas.Bool.{both_ways}
+use Rattle.std.proofs.lemmas.Option.{same_Some}
 use Rattle.outer.specs.ByteLists.{Bytes}
 use Rattle.outer.specs.Exhaustion.{first_of, first_below, in_front, first_list}
 use Rattle.outer.proofs.Bytewise.{bytes_cons}
 
 none_not_some : {A : Type 0} {P : Type 0} {o : Option A} {a : A} → o ≡ None → o ≡ Some a → P
 none_not_some p q = absurd (let z : ◌≡◌ {A = ℕ} 0 1 = cc in omega arith)
-
-pub same_answer : {A : Type 0} {a b : A} → Some a ≡ Some b → a ≡ b
-same_answer p = cc
 
 first_below_some : {A : Type 0} (m : ℕ) (g : ℕ → Option A) (a : A) → first_below m g ≡ Some a → (b : ℕ) × (b < m) × (g b ≡ Some a)
 unfolding first_below
@@ -39,7 +37,7 @@ Answer n t (Some xs) = (length xs ≡ n) × Bytes xs × (t xs ≡ true)
 Answer n t None = (xs : List ℕ) → length xs ≡ n → Bytes xs → t xs ≡ false
 
 front_some : (n : ℕ) (t : List ℕ → Bool) (b : ℕ) (xs : List ℕ) (o : Option (List ℕ)) → b < 256 → Answer n (λ ys. t (b ∷ ys)) o → in_front b o ≡ Some xs → Answer (suc n) t (Some xs)
-front_some n t b xs (Some ys) h a q = subst (λ l. Answer (suc n) t (Some l)) (same_answer q) (ap suc a.0, bytes_cons b ys h a.1, a.2)
+front_some n t b xs (Some ys) h a q = subst (λ l. Answer (suc n) t (Some l)) (same_Some _ _ q) (ap suc a.0, bytes_cons b ys h a.1, a.2)
 front_some n t b xs None h a q = none_not_some refl q
 
 front_none : (n : ℕ) (t : List ℕ → Bool) (b : ℕ) (o : Option (List ℕ)) → Answer n (λ ys. t (b ∷ ys)) o → in_front b o ≡ None

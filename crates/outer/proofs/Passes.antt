@@ -1,5 +1,6 @@
 -- The decoder's parts, computed on numbers, are those of the field.
 use Rattle.std.proofs.Common.{◌≡◌, ℕ, suc, ◌+◌, ◌-◌, ◌*◌, ◌<◌, List, [], ◌∷◌, map, get_or, sym, refl, ap, ◌∙◌, ap₂, zero-add as zero-plus, add-one, arith}
+use Rattle.std.proofs.lemmas.Nat.{xor_of_8}
 use mathlib.Core.Path.{fun_ext}
 use Rattle.galois.proofs.Lifts.{lift_zero, lift_one, lift_xor, lift_mul, lift_inv}
 use Rattle.galois.specs.Bytes.{lift, ByteField, FieldRule, lifted, power}
@@ -7,7 +8,7 @@ use Rattle.outer.specs.ByteLists.{Bytes}
 use Rattle.outer.specs.Decoding.{locator, polynomial_at, applied, others, sequence, passed, passes, differences, error_value}
 use Rattle.outer.proofs.Series.{pow, eval, dot, turned, factors}
 use Rattle.outer.proofs.Moments.{eval_nil, eval_cons, dot_nil, dot_cons, pow-pow}
-use Rattle.outer.proofs.Bytewise.{xor_small, power_small, lift-power, locator_small, lift-locator}
+use Rattle.outer.proofs.Bytewise.{power_small, lift-power, locator_small, lift-locator}
 
 module _ (f : ByteField) (rule : FieldRule f) where
   open lifted f rule use {zero as 𝟘, one as 𝟙, add as ◌⊕◌, mul as ◌⊗◌, inv}
@@ -17,7 +18,7 @@ module _ (f : ByteField) (rule : FieldRule f) where
   pub polynomial_small : (cs : List ℕ) (x : ℕ) → Bytes cs → x < 256 → polynomial_at f cs x < 256
   unfolding polynomial_at
   polynomial_small [] x h k = omega arith
-  polynomial_small (c ∷ cs) x h k = xor_small c _ (h 0) (rule.mul_small x _ k (polynomial_small cs x (λ i. h (suc i)) k))
+  polynomial_small (c ∷ cs) x h k = xor_of_8 c _ (h 0) (rule.mul_small x _ k (polynomial_small cs x (λ i. h (suc i)) k))
 
   pub lift-polynomial : (cs : List ℕ) (x : ℕ) → Bytes cs → x < 256 → lift (polynomial_at f cs x) ≡ eval (lifted f rule) (map lift cs) (lift x)
   unfolding polynomial_at
@@ -42,7 +43,7 @@ module _ (f : ByteField) (rule : FieldRule f) where
 
   pub passed_small : (x : ℕ) (s : ℕ → ℕ) (j : ℕ) → x < 256 → ((i : ℕ) → s i < 256) → passed f x s j < 256
   unfolding passed
-  passed_small x s j h k = xor_small _ _ (k (j + 1)) (rule.mul_small x (s j) h (k j))
+  passed_small x s j h k = xor_of_8 _ _ (k (j + 1)) (rule.mul_small x (s j) h (k j))
 
   pub passes_small : (n : ℕ) (qs : List ℕ) (s : ℕ → ℕ) (j : ℕ) → ((i : ℕ) → s i < 256) → passes f n qs s j < 256
   unfolding passes
@@ -64,13 +65,13 @@ module _ (f : ByteField) (rule : FieldRule f) where
   pub differences_small : (n : ℕ) (qs : List ℕ) (x : ℕ) → x < 256 → differences f n qs x < 256
   unfolding differences
   differences_small n [] x h = omega arith
-  differences_small n (q ∷ qs) x h = rule.mul_small _ _ (xor_small x _ h (locator_small f rule n q)) (differences_small n qs x h)
+  differences_small n (q ∷ qs) x h = rule.mul_small _ _ (xor_of_8 x _ h (locator_small f rule n q)) (differences_small n qs x h)
 
   pub lift-differences : (n : ℕ) (qs : List ℕ) (x : ℕ) → x < 256 → lift (differences f n qs x) ≡ factors (lifted f rule) (λ p. lift (locator f n p)) qs (lift x)
   unfolding differences factors
   lift-differences n [] x h = lift_one f rule
   lift-differences n (q ∷ qs) x h =
-      lift_mul f rule _ _ (xor_small x _ h (locator_small f rule n q)) (differences_small n qs x h)
+      lift_mul f rule _ _ (xor_of_8 x _ h (locator_small f rule n q)) (differences_small n qs x h)
       ∙ ap₂ ◌⊗◌ (lift_xor f rule x (locator f n q)) (lift-differences n qs x h)
 
   module _ (r n : ℕ) (zs s : List ℕ) (p : ℕ) (h : Bytes s) where

@@ -1,5 +1,6 @@
 -- Words by places: a syndrome is a moment of the bytes.
 use Rattle.std.proofs.Common.{◌≡◌, ℕ, zero, suc, ◌+◌, ◌-◌, ◌<◌, ◌≤◌, List, [], ◌∷◌, length, get_or, sym, ap, ◌∙◌, subst, ap₂, zero-add as zero-plus, arith}
+use Rattle.std.proofs.lemmas.Nat.{xor_of_8}
 use lib.Bits.{bit_xor}
 use Rattle.std.specs.List.{range_with_len, AllByRecursion as All}
 use Rattle.std.proofs.lemmas.List.FromFn.{length-range_with_len, get_or-range_with_len}
@@ -12,7 +13,7 @@ use Rattle.outer.specs.Decoding.{locator}
 use Rattle.outer.proofs.Series.{pow, sum, moment, Apart}
 use Rattle.outer.proofs.Rings.{ring, one_more_power}
 use Rattle.outer.proofs.Moments.{steps, pow_suc, sum_cons, sum_nil, pow_add, pow_swap}
-use Rattle.outer.proofs.Bytewise.{xor_small, power_small, lift-power, lift-locator, locators_apart}
+use Rattle.outer.proofs.Bytewise.{power_small, lift-power, lift-locator, locators_apart}
 
 -- what holds at each place below n holds of each element of the list of places
 pub all_places : (P : ℕ → Type 0) (a n : ℕ) → ((p : ℕ) → a ≤ p → p < a + n → P p) → All P (range_with_len a n)
@@ -31,7 +32,7 @@ module _ (f : ByteField) (rule : FieldRule f) where
   unfolding value_from
   value_from_small v [] x h k l = h
   value_from_small v (b ∷ bs) x h k l =
-      value_from_small (bit_xor (f.mul v x) b) bs x (xor_small (f.mul v x) b (rule.mul_small v x h l) (k 0)) (λ i. k (suc i)) l
+      value_from_small (bit_xor (f.mul v x) b) bs x (xor_of_8 (f.mul v x) b (rule.mul_small v x h l) (k 0)) (λ i. k (suc i)) l
 
   -- the sum of a word's bytes, each with its power of x
   unfoldable pub byte_sum : List ℕ → Byte → Byte
@@ -45,7 +46,7 @@ module _ (f : ByteField) (rule : FieldRule f) where
   value-byte_sum v (b ∷ bs) x h k l =
       let next = bit_xor (f.mul v x) b in
       let read : lift next ≡ lift v ⊗ lift x ⊕ lift b = lift_xor f rule (f.mul v x) b ∙ ap (λ u. u ⊕ lift b) (lift_mul f rule v x h l) in
-      value-byte_sum next bs x (xor_small (f.mul v x) b (rule.mul_small v x h l) (k 0)) (λ i. k (suc i)) l
+      value-byte_sum next bs x (xor_of_8 (f.mul v x) b (rule.mul_small v x h l) (k 0)) (λ i. k (suc i)) l
       ∙ ap (λ u. u ⊗ pow (lifted f rule) (lift x) (length bs) ⊕ byte_sum bs (lift x)) read
       ∙ one_more_power (lifted f rule) (lift v) (lift b) (lift x) (pow (lifted f rule) (lift x) (length bs)) (byte_sum bs (lift x))
       ∙ ap (λ u. lift v ⊗ u ⊕ byte_sum (b ∷ bs) (lift x)) (sym (pow_suc (lifted f rule) (lift x) (length bs)))

@@ -1,21 +1,23 @@
 -- One turn of a loop for each part of the decoder.
 use Rattle.std.proofs.Common.{◌≡◌, ℕ, ◌+◌, ◌<◌, Bool, cond, not, eqb, List, [], ◌∷◌, ◌++◌, length, get_or, take, set, filter, sym, refl, ap, ◌∙◌, ap₂, add_assoc, add_comm, zero-add, arith}
+use Rattle.std.proofs.lemmas.Nat.{xor_of_8}
 use lib.Bits.{bit_xor}
 use Rattle.std.specs.List.{range_with_len}
-use Rattle.std.proofs.lemmas.List.FromFn.{map-range_with_len_more}
+use Rattle.std.proofs.lemmas.List.FromFn.{filter_of_map_range_with_len_more}
 use Rattle.std.proofs.lemmas.List.Elements.{filter-append}
 use Rattle.std.proofs.lemmas.List.{append-nil, take_more, map-id}
 use Rattle.std.proofs.lemmas.Bool.{eq-eqb, ne_eqb}
 use Rattle.galois.specs.Bytes.{ByteField, FieldRule}
 use Rattle.outer.specs.Decoding.{locator, is_other, others, passed, passes, differences, corrected, errors}
-use Rattle.outer.proofs.Bytewise.{xor_small, locator_small}
+use Rattle.outer.proofs.Bytewise.{locator_small}
 use Rattle.outer.proofs.Passes.{differences_small}
 
 -- the places below i + 1 that a test keeps
 pub kept_push : (t : ℕ → Bool) (i : ℕ) → filter t (range_with_len 0 (i + 1)) ≡ filter t (range_with_len 0 i) ++ cond (t i) (i ∷ []) []
 kept_push t i =
-    ap (filter t) (sym (map-id (range_with_len 0 (i + 1))) ∙ map-range_with_len_more (λ (p : ℕ). p) 0 i i (zero-add i) ∙ ap (λ l. l ++ i ∷ []) (map-id (range_with_len 0 i)))
-    ∙ filter-append t (range_with_len 0 i) (i ∷ [])
+    ap (filter t) (sym (map-id (range_with_len 0 (i + 1))))
+    ∙ filter_of_map_range_with_len_more t (λ p. p) 0 i i (zero-add i)
+    ∙ ap (λ l. filter t l ++ cond (t i) (i ∷ []) []) (map-id (range_with_len 0 i))
 
 pub others_push : (p q : ℕ) (zs : List ℕ) → ¬ (q ≡ p) → others p (zs ++ q ∷ []) ≡ others p zs ++ q ∷ []
 unfolding others is_other
@@ -60,7 +62,7 @@ module _ (f : ByteField) where
 
   pub differences_push : FieldRule f → (n : ℕ) (qs : List ℕ) (q x : ℕ) → x < 256 → differences f n (qs ++ q ∷ []) x ≡ f.mul (differences f n qs x) (bit_xor x (locator f n q))
   unfolding differences
-  differences_push rule n [] q x h = rule.mul_comm _ 1 (xor_small x _ h (locator_small f rule n q)) (omega arith)
+  differences_push rule n [] q x h = rule.mul_comm _ 1 (xor_of_8 x _ h (locator_small f rule n q)) (omega arith)
   differences_push rule n (p ∷ ps) q x h =
       ap (f.mul (bit_xor x (locator f n p))) (differences_push rule n ps q x h)
-      ∙ sym (rule.mul_assoc _ _ _ (xor_small x _ h (locator_small f rule n p)) (differences_small f rule n ps x h) (xor_small x _ h (locator_small f rule n q)))
+      ∙ sym (rule.mul_assoc _ _ _ (xor_of_8 x _ h (locator_small f rule n p)) (differences_small f rule n ps x h) (xor_of_8 x _ h (locator_small f rule n q)))

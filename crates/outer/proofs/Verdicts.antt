@@ -1,5 +1,6 @@
 -- The decoder finds the near code word, or shows that there is none.
 use Rattle.std.proofs.Common.{◌≡◌, ℕ, zero, suc, ◌+◌, ◌*◌, ◌<◌, ◌≤◌, Bool, true, false, cond, ◌&&◌, eqb, List, [], ◌∷◌, map, length, get_or, filter, sym, refl, ap, ◌∙◌, subst, arith}
+use Rattle.std.proofs.lemmas.Nat.{xor_of_8}
 use lib.Bits.{bit_xor, xor_zero_r}
 use lib.ListN.{length-map}
 use Rattle.std.specs.List.{range_with_len, AllByRecursion as All}
@@ -17,7 +18,7 @@ use Rattle.outer.proofs.Series.{pow, eval, dot, moment, wrong, factors}
 use Rattle.outer.proofs.Kept.{all_both, kept_both, kept_alone}
 use Rattle.outer.proofs.Rings.{zero_add, same_from_sum, cancel, cancel_right, divided, added_back}
 use Rattle.outer.proofs.Moments.{moment_add, factors_not_zero, few_kept, zero_if_not_kept, turned-value}
-use Rattle.outer.proofs.Bytewise.{zero_from_lift, xor_small, locator_small, locators_apart}
+use Rattle.outer.proofs.Bytewise.{zero_from_lift, locator_small, locators_apart}
 use Rattle.outer.proofs.Places.{all_places, at_place, weighted, syndrome-moment, places_apart}
 use Rattle.outer.proofs.CodeWords.{weight_not_zero, wrong-distance}
 use Rattle.outer.proofs.Corrections.{length-corrected, bytes_corrected, errors_few, corrected-at, distance-corrected}
@@ -137,7 +138,7 @@ module _ (f : ByteField) (rule : FieldRule f) where
           go : (p : ℕ) → p < k + 2 * e → (b : Bool) → is_located f (k + 2 * e) cs p ≡ b
               → bit_xor (get_or w p 0) (cond b (error_value f r (k + 2 * e) (locator_zeros f (k + 2 * e) cs) s p) 0) ≡ get_or c p 0
           go p h true q =
-              lift_only _ _ (xor_small _ _ (hw p) (error_small f rule r (k + 2 * e) (locator_zeros f (k + 2 * e) cs) s p it.syndromes_small)) (near.small p)
+              lift_only _ _ (xor_of_8 _ _ (hw p) (error_small f rule r (k + 2 * e) (locator_zeros f (k + 2 * e) cs) s p it.syndromes_small)) (near.small p)
               (lift_xor f rule (get_or w p 0) _ ∙ ap (λ u. lift (get_or w p 0) ⊕ u) (value_located p h q) ∙ added_back (lifted f rule) (lift (get_or c p 0)) (lift (get_or w p 0)))
           go p h false q = xor_zero_r (get_or w p 0) ∙ same_unlocated p h q
 

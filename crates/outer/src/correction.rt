@@ -1,11 +1,12 @@
 // The values of the errors at known places, and the word without them.
-ghost use Rattle.std.specs.Prelude.{◌≡◌, ◌<◌, ◌≤◌, length};
+ghost use Rattle.std.specs.Prelude.{◌≡◌, ◌<◌, ◌≤◌, length, map};
 ghost use Rattle.outer.specs.Correction.{Inside, OnePass, Constant, LocatorMultiples};
 ghost use Rattle.outer.specs.Decoding.{error_value, corrected, errors};
 
 use super::error_places::Places;
 use super::lanes::{Multiples, moved};
 use super::locator::scalar_multiples;
+use arrayvec::ArrayVec;
 use galois::field::Field;
 use std::simd::prelude::*;
 
@@ -23,25 +24,35 @@ fn constant(multiples: &Multiples) -> u8
     multiples.rows[0].lanes.to_array()[0]
 }
 
-// For each place the multiples of its locator in a word of n bytes.
-fn locator_multiples<F: Field>(field: &F, places: &Places, n: usize) -> [Multiples; 16]
-    requires { Inside n places.now.items }
-    ensures { LocatorMultiples (F.Field.meaning field.now) n places.now.items result }
-{
-    let mut multiples = [scalar_multiples(field, 0); 16];
-    for (i, place) in places.as_slice().iter().enumerate() {
-        multiples[i] = scalar_multiples(field, field.power(n - 1 - usize::from(*place)));
-    }
-    multiples
+// A place, and the multiples of its locator.
+#[derive(Clone, Copy, Default)]
+struct Located {
+    place: u8,
+    locator: Multiples,
 }
 
-// What the values of the errors in a word of n bytes follow from: its syndromes, the places, and for each place the multiples of its locator.
+// For each place the multiples of its locator in a word of n bytes.
+fn locate<F: Field>(field: &F, places: &Places, n: usize) -> ArrayVec<Located, 16>
+    requires { Inside n places.now.items }
+    ensures places { map (λ e. e.place) result.items ≡ places.now.items }
+    ensures multiples { LocatorMultiples (F.Field.meaning field.now) n places.now.items (map (λ e. e.locator) result.items) }
+{
+    let mut located = ArrayVec::new();
+    for place in places.as_slice() {
+        located.push(Located {
+            place: *place,
+            locator: scalar_multiples(field, field.power(n - 1 - usize::from(*place))),
+        });
+    }
+    located
+}
+
+// What the values of the errors in a word of n bytes follow from: its syndromes, and the places with the multiples of their locators.
 #[derive(Drop)]
 struct Errors<'a, F> {
     field: &'a F,
     syndromes: &'a [u8; 32],
-    places: &'a Places,
-    locators: [Multiples; 16],
+    located: ArrayVec<Located, 16>,
     r: usize,
     n: usize,
 }
@@ -50,18 +61,18 @@ impl<F: Field> Errors<'_, F> {
     // The value of the error at one of the places.
     fn value(&self, place: usize) -> u8
         requires known { (place < self.now.n) × ((self.now.n ≤ 255) × (self.now.r ≤ 254)) }
-        requires located { LocatorMultiples (F.Field.meaning self.now.field.now) self.now.n self.now.places.now.items self.now.locators }
-        ensures { result ≡ error_value (F.Field.meaning self.now.field.now) self.now.r self.now.n self.now.places.now.items self.now.syndromes.now place }
+        requires located { LocatorMultiples (F.Field.meaning self.now.field.now) self.now.n (map (λ e. e.place) self.now.located.items) (map (λ e. e.locator) self.now.located.items) }
+        ensures { result ≡ error_value (F.Field.meaning self.now.field.now) self.now.r self.now.n (map (λ e. e.place) self.now.located.items) self.now.syndromes.now place }
     {
         let field = self.field;
         let exponent = self.n - 1 - place;
         let here = field.power(exponent);
         let mut sums = u8x32::from_array(*self.syndromes);
         let mut divisor = field.power(exponent * self.r);
-        for (other, locator) in self.places.as_slice().iter().zip(&self.locators) {
-            if usize::from(*other) != place {
-                sums = pass(locator, sums);
-                divisor = field.mul(divisor, here ^ constant(locator));
+        for other in self.located.as_slice() {
+            if usize::from(other.place) != place {
+                sums = pass(&other.locator, sums);
+                divisor = field.mul(divisor, here ^ constant(&other.locator));
             }
         }
         field.mul(sums.to_array()[0], field.inverse(divisor))
@@ -85,8 +96,7 @@ pub fn correct<F: Field>(
     let errors = Errors {
         field,
         syndromes,
-        places,
-        locators: locator_multiples(field, places, n),
+        located: locate(field, places, n),
         r,
         n,
     };

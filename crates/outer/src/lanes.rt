@@ -8,13 +8,13 @@ use std::array;
 use std::simd::prelude::*;
 
 // One multiple of each of 32 constants.
-#[derive(Clone, Copy)]
+#[derive(Clone, Copy, Default)]
 pub struct Row {
     pub lanes: u8x32,
 }
 
 // The multiples of 32 constants by the bytes 1, 2, 4, .. , 128.
-#[derive(Clone, Copy)]
+#[derive(Clone, Copy, Default)]
 pub struct Multiples {
     pub rows: [Row; 8],
 }

@@ -4,6 +4,7 @@ ghost use Rattle.outer.specs.Lanes.{Are};
 ghost use Rattle.outer.specs.Cutting.{always, Scales, Scaled, MovedOn, Applies, Power, Powers, Fails, Clears, ClearsAll, Cuts, Annihilator};
 
 use super::lanes::{Multiples, Row, moved};
+use arrayvec::ArrayVec;
 use galois::field::Field;
 use std::array;
 use std::simd::prelude::*;
@@ -65,6 +66,9 @@ fn power(b: usize) -> u8x32
     u8x32::from_array(lanes)
 }
 
+// Polynomials, at most 17, a coefficient in each lane.
+type Polynomials = ArrayVec<Row, 17>;
+
 // The polynomials 1, x, x^2, .. , x^16.
 fn powers() -> [Row; 17]
     ensures { Powers result }
@@ -121,22 +125,18 @@ fn clear<F: Field>(
     }
 }
 
-// How many of some polynomials, in front of the others, are left after one equation more.
+// The first polynomial that fails one equation more goes, and those that are left meet it too.
 fn cut<F: Field>(
     field: &F,
     equation: &Multiples,
     scales: &[Multiples; 8],
-    polynomials: &mut [Row],
-) -> usize
-    ensures few { result ≤ length polynomials.old }
-    ensures cuts { Cuts (F.Field.meaning field.now) equation.now.rows scales.now (length polynomials.old) result polynomials.old polynomials.new }
+    polynomials: &mut Polynomials,
+)
+    ensures { Cuts (F.Field.meaning field.now) equation.now.rows scales.now (length polynomials.old.items) (length polynomials.new.items) polynomials.old.items polynomials.new.items }
 {
-    match first_failing(equation, polynomials) {
-        None => polynomials.len(),
-        Some(b) => {
-            clear(field, equation, scales, polynomials, b);
-            polynomials.len() - 1
-        }
+    if let Some(b) = first_failing(equation, polynomials.as_slice()) {
+        clear(field, equation, scales, polynomials.as_mut_slice(), b);
+        polynomials.pop();
     }
 }
 
@@ -147,11 +147,11 @@ pub fn annihilator<F: Field>(field: &F, syndromes: &[u8; 32], e: usize) -> [u8; 
 {
     let scales = scales(field);
     let mut equation = lane_multiples(&scales, u8x32::from_array(*syndromes));
-    let mut polynomials = powers();
-    let mut n = e + 1;
+    let mut polynomials = Polynomials::from(powers());
+    polynomials.truncate(e + 1);
     for _j in 0..e {
-        n = cut(field, &equation, &scales, &mut polynomials[..n]);
+        cut(field, &equation, &scales, &mut polynomials);
         equation = next_lanes(&equation);
     }
-    polynomials[0].lanes.to_array()
+    polynomials.as_slice()[0].lanes.to_array()
 }

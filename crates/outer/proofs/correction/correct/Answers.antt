@@ -18,12 +18,13 @@ loop-place-preserved g c =
     let i = c.loop-place.place-index in
     let p = c.from-place.result in
     let x = c.value-value.result in
+    let known : x ≡ v p = c.value-value.ensures ∙ ap (λ l. error_value (g.F.Field.meaning c.args.field.now) c.args.r (length w) l c.args.syndromes.now p) c.locate.ensures.places in
     let inside : i < length zs = omega (arith, ap length same, c.loop-place-test.true) in
     let is : get_or zs i 0 ≡ p = sym (c.from-place.ensures ∙ ap (λ l. get_or l i 0) same) in (
-      corrected_more v w zs i p x inside is c.value-value.ensures c.loop-place.word c.loop-place.invariant.0,
+      corrected_more v w zs i p x inside is known c.loop-place.word c.loop-place.invariant.0,
       elim c.if-value-ne0.branch [
-        | then-value-ne0 u ↦ u.count-is ∙ errors_one_more v w zs i p x inside is c.value-value.ensures c.loop-place.count u.if-value-ne0.true c.loop-place.invariant.1
-        | else-value-ne0 u ↦ u.count-is ∙ errors_no_more v w zs i p x inside is c.value-value.ensures c.loop-place.count u.if-value-ne0.false c.loop-place.invariant.1
+        | then-value-ne0 u ↦ u.count-is ∙ errors_one_more v w zs i p x inside is known c.loop-place.count u.if-value-ne0.true c.loop-place.invariant.1
+        | else-value-ne0 u ↦ u.count-is ∙ errors_no_more v w zs i p x inside is known c.loop-place.count u.if-value-ne0.false c.loop-place.invariant.1
       ],
       elim c.if-value-ne0.branch [ then-value-ne0 u ↦ omega (arith, u.count-is, c.loop-place.invariant.2) | else-value-ne0 u ↦ omega (arith, u.count-is, c.loop-place.invariant.2) ],
     )

@@ -1,5 +1,5 @@
 -- After j equations the polynomials that are left meet them, and the multiples are those of the next.
-use Rattle.std.proofs.Common.{◌≡◌, length}
+use Rattle.std.proofs.Common.{length}
 use Rattle.outer.specs.Lanes.{Are}
 use Rattle.outer.specs.Cutting.{from, Cut}
 use Rattle.outer.proofs.locator.annihilator.Given as goal
@@ -7,4 +7,4 @@ use Rattle.outer.proofs.locator.annihilator.Given as goal
 abbrev pub invariant-loop-j : goal.invariant-loop-j
 invariant-loop-j g l =
     let f = g.F.Field.meaning l.field in
-    (length l.polynomials ≡ 17) × Cut f l.e l.syndromes l._j l.n l.polynomials × Are f (from l.syndromes l._j) l.equation.rows
+    Cut f l.e l.syndromes l._j (length l.polynomials.items) l.polynomials.items × Are f (from l.syndromes l._j) l.equation.rows

@@ -47,23 +47,6 @@ sent_byte rate body k d out ms h e r =
 pub sent_tail : (rate : Rate) (w : Word) (out ms : List ℕ) → out ≡ sent rate w → sent rate (w ++ zeros 6) ≡ sent rate w ++ ms → out ++ ms ≡ marks rate w
 sent_tail rate w out ms e r = ap (λ (l : List ℕ). l ++ ms) e ∙ sym r ∙ sent-fed rate w
 
--- the runs of all bytes one after another, and then that of the tail, are the marks of the body
-module _ (rate : Rate) (body : List ℕ) (runs : List (List ℕ)) (size : length runs ≡ length body)
-    (ran : (k : ℕ) → k < length body → sent rate (all_bits (take k body) ++ bits (get_or body k 0)) ≡ sent rate (all_bits (take k body)) ++ get_or runs k []) where
-  runs_sent : (k : ℕ) → k ≤ length body → flat_map (λ x. x) (take k runs) ≡ sent rate (all_bits (take k body))
-  unfolding all_bits
-  runs_sent zero h = sym (sent_none rate)
-  runs_sent (suc k) h =
-      let whole : flat_map (λ x. x) (take (k + 1) runs) ≡ sent rate (all_bits (take (k + 1) body)) =
-      ap (flat_map (λ x. x)) (take_more runs k [] (omega arith)) ∙ sym (flat_map_more (λ x. x) [] (take k runs) (get_or runs k []))
-      ∙ sent_byte rate body k 0 (flat_map (λ x. x) (take k runs)) (get_or runs k []) (omega arith) (runs_sent k (omega arith)) (ran k (omega arith)) in
-      subst (λ (n : ℕ). flat_map (λ x. x) (take n runs) ≡ sent rate (all_bits (take n body))) (add-one k) whole
-
-  pub runs_marks : (ms : List ℕ) → sent rate (all_bits body ++ zeros 6) ≡ sent rate (all_bits body) ++ ms → flat_map (λ x. x) runs ++ ms ≡ marks rate (all_bits body)
-  runs_marks ms r =
-      sent_tail rate (all_bits body) (flat_map (λ x. x) runs) ms
-      (ap (flat_map (λ x. x)) (sym (take_all (length body) runs (omega arith))) ∙ runs_sent (length body) (omega arith) ∙ ap (λ (l : List ℕ). sent rate (all_bits l)) (take_all (length body) body (omega arith))) r
-
 -- every mark is 0 or 1
 
 Small : List ℕ → Type 0

@@ -20,4 +20,4 @@ lower-requires-else-low-lt16384 c s h =
 pub returns-else-low-lt16384 : goal.returns-else-low-lt16384
 returns-else-low-lt16384 c =
     let same = both_lower c.lower.result c.lower-else-low-lt16384.result c.args.low c.args.high 8192 c.lower.ensures.long c.fits-low.0 c.lower.ensures.each c.lower-else-low-lt16384.ensures.each in
-    ((8192, same), omega (arith, same 0 (omega arith)))
+    record { long = c.lower.ensures.long; lower = ((8192, same), omega (arith, same 0 (omega arith))) }

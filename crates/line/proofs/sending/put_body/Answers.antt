@@ -1,5 +1,5 @@
 -- The marks of one byte more, and of the tail, stand at their places.
-use Rattle.std.proofs.Common.{◌+◌, length, sym, ap, ◌∙◌, arith}
+use Rattle.std.proofs.Common.{length, sym, ap, ◌∙◌, arith}
 use Rattle.stack.specs.Buffers.{zeros}
 use Rattle.stack.specs.Bodies.{cleared}
 use Rattle.line.specs.Line.{spread, block, block_size}

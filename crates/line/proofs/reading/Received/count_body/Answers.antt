@@ -1,9 +1,8 @@
 -- The marks of one byte more, and of the tail, are counted.
-use Rattle.std.proofs.Common.{◌+◌, length, sym, ap, arith}
-use Rattle.convolution.specs.Encoding.{sent}
+use Rattle.std.proofs.Common.{length, sym, ap, arith}
 use Rattle.line.specs.Line.{dear, block_size, rule_prices}
 use Rattle.line.specs.Costing.{dear_join}
-use Rattle.line.proofs.Running.{front, sent-front_none, after_none, after_more, sent_more, byte_length, byte_room, tail_room, sent_last, run_small, ran_shown, dear_room}
+use Rattle.line.proofs.Running.{sent-front_none, after_none, after_more, sent_more, byte_length, byte_room, tail_room, sent_last, run_small, ran_shown, dear_room}
 use Rattle.line.proofs.reading.Received.count_body.Goals as goal
 
 pub loop-byte-init : goal.loop-byte-init

@@ -1,5 +1,5 @@
 -- The slots of a step, one after another.
-use Rattle.std.proofs.Common.{ℕ, ◌*◌, false, get_or, arith}
+use Rattle.std.proofs.Common.{ℕ, false, get_or, arith}
 use Rattle.line.specs.Line.{block_size, rule_prices}
 use Rattle.line.proofs.Stepping.{step_priced, step_room, step_end, step_small}
 use Rattle.line.proofs.reading.Received.step_costs.Goals as goal

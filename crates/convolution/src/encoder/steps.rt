@@ -29,14 +29,13 @@ impl Encoder {
     {
         let line = self.state as u16 + 64 * bits as u16;
         let rows = rows(self.rate, line, self.phase);
-        let mut marks = [0; 24];
-        let mut count = 0;
+        let mut marks = Marks::new();
         for i in 0..steps {
-            count = put_step(rows, i, &mut marks, count);
+            put_step(rows, i, &mut marks);
         }
         self.state = ((line >> steps) % 64) as u8;
         self.phase = ((self.phase as usize + steps) % 6) as u8;
-        Marks::of(marks, count)
+        marks
     }
 
     // One step: the next bit goes in, and the answer is the kept marks of the step.

@@ -1,7 +1,6 @@
 -- The marks of a body, byte after byte and then the tail.
-use Rattle.std.proofs.Common.{◌≡◌, ℕ, zero, suc, ◌+◌, ◌*◌, ◌<◌, ◌≤◌, Bool, true, false, cond, List, [], ◌∷◌, ◌++◌, length, get_or, take, sym, refl, ap, ◌∙◌, subst, add-one, arith}
-use Rattle.std.specs.List.{flat_map}
-use Rattle.std.proofs.lemmas.List.{append-nil, append_assoc, flat_map_more, length-append, take_more, take_all}
+use Rattle.std.proofs.Common.{◌≡◌, ℕ, zero, suc, ◌+◌, ◌*◌, ◌<◌, Bool, true, false, cond, List, [], ◌∷◌, ◌++◌, length, get_or, take, sym, refl, ap, ◌∙◌, arith}
+use Rattle.std.proofs.lemmas.List.{append-nil, append_assoc, length-append, take_more}
 use Rattle.convolution.specs.declared.encoder.Encoder.{Encoder}
 use Rattle.convolution.specs.declared.rate.Rate.{Rate}
 use Rattle.convolution.specs.Code.{Word, bits, mark, generators, keeps, kept_from, all_bits, fed, zeros, window, step_marks, marks_to, marks, marks_before}
@@ -46,23 +45,6 @@ sent_byte rate body k d out ms h e r =
 -- the tail after all bits
 pub sent_tail : (rate : Rate) (w : Word) (out ms : List ℕ) → out ≡ sent rate w → sent rate (w ++ zeros 6) ≡ sent rate w ++ ms → out ++ ms ≡ marks rate w
 sent_tail rate w out ms e r = ap (λ (l : List ℕ). l ++ ms) e ∙ sym r ∙ sent-fed rate w
-
--- the runs of all bytes one after another, and then that of the tail, are the marks of the body
-module _ (rate : Rate) (body : List ℕ) (runs : List (List ℕ)) (size : length runs ≡ length body)
-    (ran : (k : ℕ) → k < length body → sent rate (all_bits (take k body) ++ bits (get_or body k 0)) ≡ sent rate (all_bits (take k body)) ++ get_or runs k []) where
-  runs_sent : (k : ℕ) → k ≤ length body → flat_map (λ x. x) (take k runs) ≡ sent rate (all_bits (take k body))
-  unfolding all_bits
-  runs_sent zero h = sym (sent_none rate)
-  runs_sent (suc k) h =
-      let whole : flat_map (λ x. x) (take (k + 1) runs) ≡ sent rate (all_bits (take (k + 1) body)) =
-      ap (flat_map (λ x. x)) (take_more runs k [] (omega arith)) ∙ sym (flat_map_more (λ x. x) [] (take k runs) (get_or runs k []))
-      ∙ sent_byte rate body k 0 (flat_map (λ x. x) (take k runs)) (get_or runs k []) (omega arith) (runs_sent k (omega arith)) (ran k (omega arith)) in
-      subst (λ (n : ℕ). flat_map (λ x. x) (take n runs) ≡ sent rate (all_bits (take n body))) (add-one k) whole
-
-  pub runs_marks : (ms : List ℕ) → sent rate (all_bits body ++ zeros 6) ≡ sent rate (all_bits body) ++ ms → flat_map (λ x. x) runs ++ ms ≡ marks rate (all_bits body)
-  runs_marks ms r =
-      sent_tail rate (all_bits body) (flat_map (λ x. x) runs) ms
-      (ap (flat_map (λ x. x)) (sym (take_all (length body) runs (omega arith))) ∙ runs_sent (length body) (omega arith) ∙ ap (λ (l : List ℕ). sent rate (all_bits l)) (take_all (length body) body (omega arith))) r
 
 -- every mark is 0 or 1
 

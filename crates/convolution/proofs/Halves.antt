@@ -67,8 +67,5 @@ both_lower x y x' y' k l l' h g s b = elim (cases_lt s 32) [
   | inr ge ↦ rw (get_or-append_right x y 32 s 0 l ge, get_or-append_right x' y' 32 s 0 l' ge) (g (s - 32) (omega arith))
 ]
 
-pub low-at : (x y : List ℕ) (s : ℕ) → length x ≡ 32 → s < 32 → get_or (x ++ y) s 0 ≡ get_or x s 0
-low-at x y s l b = get_or_append_left x y 0 s (omega arith)
-
 pub high_at : (x y : List ℕ) (s : ℕ) → length x ≡ 32 → get_or (x ++ y) (s + 32) 0 ≡ get_or y s 0
 high_at x y s l = let e : s + 32 - 32 ≡ s = omega arith in get_or-append_right x y 32 (s + 32) 0 l (omega arith) ∙ ap (λ k. get_or y k 0) e

@@ -1,5 +1,6 @@
 -- Which marks are kept: the patterns repeat every six steps, and their numbers have closed forms.
-use Rattle.std.proofs.Common.{◌≡◌, ℕ, zero, suc, ◌+◌, ◌*◌, ◌/◌, ◌%◌, ◌^◌, ◌<◌, ◌≤◌, Bool, true, false, cond, not, ◌&&◌, eqb, List, [], ◌∷◌, length, get_or, sym, refl, ap, ◌∙◌, subst, ap₂, ⊎_elim, arith}
+use Rattle.std.proofs.Common.{◌≡◌, ℕ, zero, suc, ◌+◌, ◌*◌, ◌/◌, ◌%◌, ◌^◌, ◌<◌, ◌≤◌, Bool, true, false, cond, not, ◌&&◌, eqb, ◌⊎◌, List, [], ◌∷◌, length, get_or, sym, refl, ap, ◌∙◌, ap₂, ⊎_elim, inl, inr, arith}
+use Rattle.std.proofs.Math.Nat.{zero-div}
 use Rattle.std.proofs.lemmas.Nat.{shr-shr}
 use Rattle.std.proofs.lemmas.List.{length-append}
 use Rattle.std.proofs.lemmas.Bool.{eqb-true, eqb-false, and_parts, cases_lt}
@@ -93,20 +94,24 @@ all_agree Third (suc zero) h = refl
 all_agree Third (suc (suc zero)) h = refl
 all_agree Third (suc (suc (suc g))) h = absurd (omega arith)
 
-pub pattern_at : (rate : Rate) (g p i : ℕ) → g < 3 → p < 6 → i < 8 → get_or (patterns rate) g 0 / 2 ^ p / 2 ^ i % 2 ≡ kept_bit rate g (p + i)
+-- each bit of the patterns says whether the mark is kept
+pub pattern_at : {rate r : Rate} → rate ≡ r → (g p i : ℕ) → g < 3 → p < 6 → i < 8 → get_or (patterns r) g 0 / 2 ^ p / 2 ^ i % 2 ≡ kept_bit rate g (p + i)
 unfolding agrees
-pattern_at rate g p i h k l =
-    ap (λ (n : ℕ). n % 2) (shr-shr (get_or (patterns rate) g 0) p i) ∙ eqb-true _ _ (below_at (agrees rate g) 16 (all_agree rate g h) (p + i) (omega arith))
+pattern_at {rate} {r} same g p i h k l =
+    ap (λ (n : ℕ). n % 2) (shr-shr (get_or (patterns r) g 0) p i) ∙ eqb-true _ _ (below_at (agrees r g) 16 (all_agree r g h) (p + i) (omega arith)) ∙ ap (λ s. kept_bit s g (p + i)) (sym same)
 
--- the patterns from step p on
-pub kept_rows : {rate r : Rate} → rate ≡ r → (p a b c : ℕ) → p < 6 → a ≡ get_or (patterns r) 0 0 / 2 ^ p → b ≡ get_or (patterns r) 1 0 / 2 ^ p → c ≡ get_or (patterns r) 2 0 / 2 ^ p → KeptBits rate p (a ∷ b ∷ c ∷ [])
-kept_rows {rate} {r} same p a b c k d e f = subst (λ (s : Rate). KeptBits s p (a ∷ b ∷ c ∷ [])) (sym same) kept
-  where
-    kept : KeptBits r p (a ∷ b ∷ c ∷ [])
-    kept zero i h l = ap (λ n. n / 2 ^ i % 2) d ∙ pattern_at r 0 p i h k l
-    kept (suc zero) i h l = ap (λ n. n / 2 ^ i % 2) e ∙ pattern_at r 1 p i h k l
-    kept (suc (suc zero)) i h l = ap (λ n. n / 2 ^ i % 2) f ∙ pattern_at r 2 p i h k l
-    kept (suc (suc (suc g))) i h l = absurd (omega arith)
+-- the patterns of a rate of two generators, from step p on
+pub kept_rows : {rate : Rate} (ps : List ℕ) (p a b : ℕ) → (rate ≡ Half) ⊎ (rate ≡ TwoThirds) ⊎ (rate ≡ ThreeQuarters) → p < 6 → ((g p i : ℕ) → g < 3 → p < 6 → i < 8 → get_or ps g 0 / 2 ^ p / 2 ^ i % 2 ≡ kept_bit rate g (p + i))
+    → a ≡ get_or ps 0 0 / 2 ^ p → b ≡ get_or ps 1 0 / 2 ^ p → KeptBits rate p (a ∷ b ∷ 0 ∷ [])
+unfolding kept_bit
+kept_rows ps p a b two k at d e zero i h l = ap (λ n. n / 2 ^ i % 2) d ∙ at 0 p i h k l
+kept_rows ps p a b two k at d e (suc zero) i h l = ap (λ n. n / 2 ^ i % 2) e ∙ at 1 p i h k l
+kept_rows ps p a b two k at d e (suc (suc zero)) i h l = ap (λ n. n % 2) (zero-div (2 ^ i)) ∙ elim two [
+  | inl e ↦ ap (λ r. kept_bit r 2 (p + i)) (sym e)
+  | inr (inl e) ↦ ap (λ r. kept_bit r 2 (p + i)) (sym e)
+  | inr (inr e) ↦ ap (λ r. kept_bit r 2 (p + i)) (sym e)
+]
+kept_rows ps p a b two k at d e (suc (suc (suc g))) i h l = absurd (omega arith)
 
 -- how many marks each rate keeps
 

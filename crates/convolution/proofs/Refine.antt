@@ -1,5 +1,5 @@
 -- The steps over vectors follow the recursion over the states.
-use Rattle.std.proofs.Common.{◌≡◌, ℕ, zero, suc, ◌+◌, ◌*◌, ◌<◌, Bool, true, false, cond, eqb, ltb, ◌≢◌, List, ◌∷◌, length, get_or, set, replicate, sym, refl, ap, ◌∙◌, add-zero, arith, get_or-set_other, get_or-set_same, below_more}
+use Rattle.std.proofs.Common.{◌≡◌, ℕ, zero, suc, ◌+◌, ◌*◌, ◌^◌, ◌<◌, ◌≤◌, Bool, true, false, cond, eqb, ltb, ◌≢◌, List, ◌∷◌, ◌++◌, length, get_or, set, replicate, sym, refl, ap, ◌∙◌, add-zero, arith, get_or-set_other, get_or-set_same, below_more}
 use lib.Dec.{eqb-suc-zero}
 use lib.ListN.{get_or-replicate}
 use Rattle.std.proofs.lemmas.Bool.Decides.{nat_tests}
@@ -7,10 +7,11 @@ use Rattle.convolution.specs.declared.rate.Rate.{Rate}
 use Rattle.convolution.specs.declared.costs.StepCosts.{StepCosts}
 use Rattle.convolution.specs.Code.{bit}
 use Rattle.convolution.specs.Cost.{step_cost}
-use Rattle.convolution.specs.Lanes.{through, Selected}
-use Rattle.convolution.specs.Slots.{free, Priced, window_cost, Ran}
+use Rattle.convolution.specs.Lanes.{through, Near, Selected, Costs}
+use Rattle.convolution.specs.Slots.{free, Small, Priced, window_cost, Ran}
 use Rattle.convolution.specs.Trellis.{before, metric, decision, bit_of, Tracks, Chose, back}
-use Rattle.convolution.proofs.Pricing.{window_of}
+use Rattle.convolution.proofs.Pricing.{window_of, window_le}
+use Rattle.convolution.proofs.Spread.{near_all, near_next, grows}
 use Rattle.convolution.proofs.Survivor.{trace}
 
 least_shift : (k a b x y m r : ℕ) → a + k ≡ x → b + k ≡ y → r + m ≡ cond (ltb b a) b a → r + (m + k) ≡ cond (ltb y x) y x
@@ -77,3 +78,22 @@ back-trace cost (suc n) ds h s b =
     let k = decision cost n s in
     let e : bit_of (get_or ds n 0) s ≡ bit k = h n (omega arith) s b in
     rw (e, bit_is k) (ap (λ u. k ∷ u) (back-trace cost n ds (λ t l. h t (omega arith)) (before s k) (omega arith)))
+
+-- the costs of a step have room for its windows
+pub costs_room : {low high : List ℕ} → Costs low high → (s : ℕ) → s < 64 → get_or (low ++ high) s 0 < 2 ^ 15
+costs_room {low} {high} held s h = omega (arith, near_all (low ++ high) held.near s 0 h (omega arith), held.small)
+
+-- and so have those after it, however they are lowered
+module _ (rate : Rate) (c : StepCosts) (small : Small c) {low high next : List ℕ} {d : ℕ} (held : Costs low high) (h : Selected (window_cost rate c) 0 (low ++ high) next d) where
+  below : (w : ℕ) → window_cost rate c w ≤ 384
+  below w = window_le rate c w small
+
+  pub near_after : Near next × (get_or next 0 0 < 17000)
+  near_after = (near_next (window_cost rate c) below 0 (low ++ high) next d held.near h, omega (arith, grows (window_cost rate c) below (low ++ high) next d h, held.small))
+
+  pub costs_after : (l r : List ℕ) → length l ≡ 32 → ((k : ℕ) × ((s : ℕ) → s < 64 → get_or (l ++ r) s 0 + k ≡ get_or next s 0)) × (get_or (l ++ r) 0 0 < 2 ^ 14) → Costs l r
+  costs_after l r long ((k, lower), less) = record {
+    long = long;
+    near = near_next (window_cost rate c) below k (low ++ high) (l ++ r) d held.near (selected_lower (window_cost rate c) k (low ++ high) next (l ++ r) d h lower);
+    small = less;
+  }

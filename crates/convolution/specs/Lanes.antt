@@ -1,5 +1,7 @@
 -- One step over 64 costs in two vectors of 32 lanes.
-use Rattle.std.specs.Prelude.{◌≡◌, ℕ, zero, suc, ◌+◌, ◌*◌, ◌<◌, ◌≤◌, Bool, true, false, cond, List, nat_lt, slice_index}
+use Rattle.std.specs.Prelude.{◌≡◌, ℕ, zero, suc, ◌+◌, ◌*◌, ◌^◌, ◌<◌, ◌≤◌, Bool, true, false, cond, List, ◌++◌, length, take, drop, nat_lt, slice_index}
+use Rattle.std.proofs.Common.{sym, ap, ◌∙◌}
+use Rattle.std.proofs.Math.Seq.{take-append_seam, drop-append_seam}
 use Rattle.convolution.specs.Code.{bit, mark}
 use Rattle.convolution.specs.Trellis.{before, far, bit_of}
 
@@ -35,3 +37,17 @@ Meet (suc k) s p = (d : Bool) → Meet k (before s d) (before p d)
 -- states that meet k steps back differ by at most k steps' costs, beside what they began with
 abbrev pub Near : List ℕ → Type 0
 Near ms = (k s p : ℕ) → (s < 64) × (p < 64) × Meet k s p → slice_index ms s ≤ slice_index ms p + (far + k * 384)
+
+-- what the costs of the 64 states keep, in two vectors
+pub record Costs (low high : List ℕ) : Type 0 where
+  pub long : length low ≡ 32
+  pub near : Near (low ++ high)
+  pub small : slice_index (low ++ high) 0 < 2 ^ 14
+
+-- the two vectors of costs come back from all of them
+module _ {low high : List ℕ} (h : Costs low high) where
+  pub low_back : take 32 (low ++ high) ≡ low
+  low_back = ap (λ n. take n (low ++ high)) (sym h.long) ∙ take-append_seam low high
+
+  pub high_back : drop 32 (low ++ high) ≡ high
+  high_back = ap (λ n. drop n (low ++ high)) (sym h.long) ∙ drop-append_seam low high

@@ -75,7 +75,8 @@ fn lower(a: u16x32, k: u16) -> u16x32
 // Takes 8192 off all costs once the first is large.
 pub fn rebase(low: u16x32, high: u16x32) -> (u16x32, u16x32)
     requires { Near (low ++ high) × (slice_index (low ++ high) 0 < 17000) }
-    ensures { ((k : ℕ) × ((s : ℕ) → s < 64 → slice_index (result.0 ++ result.1) s + k ≡ slice_index (low ++ high) s)) × (slice_index (result.0 ++ result.1) 0 < 2 ^ 14) }
+    ensures long { length result.0 ≡ 32 }
+    ensures lower { ((k : ℕ) × ((s : ℕ) → s < 64 → slice_index (result.0 ++ result.1) s + k ≡ slice_index (low ++ high) s)) × (slice_index (result.0 ++ result.1) 0 < 2 ^ 14) }
 {
     if low.to_array()[0] < 16384 {
         (low, high)

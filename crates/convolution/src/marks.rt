@@ -53,12 +53,12 @@ impl Marks {
         }
     }
 
-    // Adds a mark if it is kept.
-    pub(crate) fn push(&mut self, mark: u16, kept: u16)
+    // Adds the lowest bit of `marks` if that of `kept` is 1.
+    pub(crate) fn push(&mut self, marks: u16, kept: u16)
         requires { length self.old < 24 }
-        ensures { self.new ≡ self.old ++ take (kept % 2) (mark % 2 ∷ []) }
+        ensures { self.new ≡ self.old ++ take (kept % 2) (marks % 2 ∷ []) }
     {
-        self.buffer[self.count] = (mark % 2) as u8;
+        self.buffer[self.count] = (marks % 2) as u8;
         self.count += (kept % 2) as usize;
     }
 

@@ -1,7 +1,7 @@
 // The marks of several steps at once.
-ghost use Rattle.std.specs.Prelude.{◌≡◌, ℕ, ◌+◌, ◌/◌, ◌%◌, ◌^◌, ◌<◌, ◌≤◌, ◌++◌, length, map};
+ghost use Rattle.std.specs.Prelude.{◌≡◌, ℕ, ◌+◌, ◌/◌, ◌%◌, ◌^◌, ◌<◌, ◌≤◌, ◌++◌, length, map, slice_index};
 ghost use Rattle.convolution.specs.Code.{mark};
-ghost use Rattle.convolution.specs.Encoding.{KeptBits, MarkBits, picked};
+ghost use Rattle.convolution.specs.Encoding.{KeptBits, MarkBits, kept_bit, picked};
 
 use crate::marks::Marks;
 use crate::rate::Rate;
@@ -21,7 +21,7 @@ fn sums(generator: u8, bits: u16) -> u16
 }
 
 // The marks of one generator in eight steps, those of step i in bit i, and which of them are kept.
-#[derive(Clone, Copy)]
+#[derive(Clone, Copy, Debug, PartialEq, Eq)]
 pub struct Row {
     marks: u16,
     kept: u16,
@@ -44,32 +44,35 @@ impl Row {
     }
 }
 
+// Which marks of a rate's generators are kept, step t in bit t.
+fn patterns(rate: Rate) -> [u16; 3]
+    ensures { (g p i : ℕ) → g < 3 → p < 6 → i < 8 → slice_index result g / 2 ^ p / 2 ^ i % 2 ≡ kept_bit rate g (p + i) }
+{
+    match rate {
+        Rate::Half => [0xffff, 0xffff, 0],
+        Rate::TwoThirds => [0x5555, 0xffff, 0],
+        Rate::ThreeQuarters => [0xdb6d, 0xb6db, 0],
+        Rate::Third => [0xffff, 0xffff, 0xffff],
+    }
+}
+
 // The rows of a rate's generators from a place of the pattern on, the marks of step i those of the window from place i on.
 pub fn rows(rate: Rate, bits: u16, phase: u8) -> [Row; 3]
     requires { phase < 6 }
     ensures marks { MarkBits rate bits (map (λ r. r.marks) result) }
     ensures kept { KeptBits rate phase (map (λ r. r.kept) result) }
 {
+    let [first, second, third] = patterns(rate);
     match rate {
-        Rate::Half => [
-            Row::new(0o171, bits, 0xffff, phase),
-            Row::new(0o133, bits, 0xffff, phase),
-            NO_ROW,
-        ],
-        Rate::TwoThirds => [
-            Row::new(0o171, bits, 0x5555, phase),
-            Row::new(0o133, bits, 0xffff, phase),
-            NO_ROW,
-        ],
-        Rate::ThreeQuarters => [
-            Row::new(0o171, bits, 0xdb6d, phase),
-            Row::new(0o133, bits, 0xb6db, phase),
+        Rate::Half | Rate::TwoThirds | Rate::ThreeQuarters => [
+            Row::new(0o171, bits, first, phase),
+            Row::new(0o133, bits, second, phase),
             NO_ROW,
         ],
         Rate::Third => [
-            Row::new(0o133, bits, 0xffff, phase),
-            Row::new(0o145, bits, 0xffff, phase),
-            Row::new(0o177, bits, 0xffff, phase),
+            Row::new(0o133, bits, first, phase),
+            Row::new(0o145, bits, second, phase),
+            Row::new(0o177, bits, third, phase),
         ],
     }
 }

@@ -1,6 +1,6 @@
 // The decoder of least cost.
-ghost use Rattle.std.specs.Prelude.{◌≡◌, ℕ, ◌+◌, ◌-◌, ◌*◌, ◌^◌, ◌<◌, ◌≤◌, ◌++◌, reverse, length, slice_index, slice_index_or};
-ghost use Rattle.convolution.specs.Lanes.{Near, Masks, Selected, Turns};
+ghost use Rattle.std.specs.Prelude.{◌≡◌, ℕ, ◌+◌, ◌-◌, ◌*◌, ◌^◌, ◌<◌, ◌≤◌, List, ◌++◌, reverse, take, drop, length, slice_index, slice_index_or};
+ghost use Rattle.convolution.specs.Lanes.{Costs, Masks, low_back, high_back, Selected, Turns};
 ghost use Rattle.convolution.specs.Slots.{Small, free, all_costs, generator_at, window_cost, Ran, Decoded};
 ghost use Rattle.convolution.specs.Code.{bits};
 ghost use Rattle.convolution.specs.Trellis.{Tracks, back};
@@ -9,6 +9,7 @@ use crate::costs::StepCosts;
 use crate::lanes;
 use crate::marks::mark;
 use crate::rate::Rate;
+use std::marker::Model;
 use std::simd::prelude::*;
 
 // More than six steps can cost.
@@ -31,8 +32,18 @@ pub struct Generators {
 pub struct Metrics {
     low: u16x32,
     high: u16x32,
-    ghost near: { Near (low ++ high) },
-    ghost small: { slice_index (low ++ high) 0 < 2 ^ 14 },
+}
+
+impl Model for Metrics {
+    ghost Value = { List ℕ };
+
+    ghost view = { λ m. m.low ++ m.high };
+
+    ghost invariant = { λ m. Costs m.low m.high };
+
+    ghost inverse = { λ ms. record { low = take 32 ms; high = drop 32 ms } };
+
+    ghost inverse_ok = { λ m h i. record { low = low_back h i; high = high_back h i } };
 }
 
 // The marks of a generator at the windows 2s below 64, as masks.
@@ -95,7 +106,7 @@ fn prices(generators: &Generators, c: StepCosts) -> (u16x32, u16x32)
 // One step: the least costs after it, and bit s of the number says which bit left the window on the best way into state s.
 fn advance(metrics: Metrics, generators: &Generators, c: StepCosts) -> (Metrics, u64)
     requires { Small c }
-    ensures { (less : ℕ) × Selected (window_cost generators.now.rate c) less (metrics.low ++ metrics.high) (result.0.low ++ result.0.high) result.1 }
+    ensures { (less : ℕ) × Selected (window_cost generators.now.rate c) less metrics result.0 result.1 }
 {
     let (same, other) = prices(generators, c);
     let (l, h, d) = lanes::select(metrics.low, metrics.high, same, other);
@@ -106,7 +117,7 @@ fn advance(metrics: Metrics, generators: &Generators, c: StepCosts) -> (Metrics,
 impl Metrics {
     // Before the first step: state 0 costs nothing, every other more than six steps can.
     pub fn start() -> Metrics
-        ensures { (cost : ℕ → ℕ → ℕ) → Tracks cost 0 (result.low ++ result.high) }
+        ensures { (cost : ℕ → ℕ → ℕ) → Tracks cost 0 result }
     {
         let mut low = [FAR; 32];
         low[0] = 0;
@@ -120,7 +131,7 @@ impl Metrics {
     pub fn run(&mut self, generators: &Generators, costs: &[StepCosts], decisions: &mut [u64])
         requires long { length decisions.old ≡ length costs.now }
         requires small { (k : ℕ) → k < length costs.now → Small (slice_index_or costs.now k free) }
-        ensures { Ran generators.now.rate costs.now (length costs.now) (self.old.low ++ self.old.high) (self.new.low ++ self.new.high) decisions.new }
+        ensures { Ran generators.now.rate costs.now (length costs.now) self.old self.new decisions.new }
     {
         let mut metrics = *self;
         for (t, c) in costs.iter().enumerate() {

@@ -5,6 +5,8 @@ use Rattle.convolution.specs.declared.encoder.Encoder.{Encoder}
 use Rattle.convolution.specs.declared.rate.Rate.{Rate}
 use Rattle.convolution.specs.Code.{Word, bits, zeros, all_bits, marks, marks_before}
 use Rattle.convolution.specs.Encoding.{After, Ran, sent}
+use Rattle.line.specs.Line.{dear}
+use Rattle.line.specs.Costing.{dear_le}
 use Rattle.convolution.proofs.Body.{all_bits_push, length-all_bits, sent_none, sent_byte, sent_tail, length-sent, ran_count, marks_to_small}
 use Rattle.convolution.proofs.Pattern.{marks_before_mono}
 
@@ -37,6 +39,10 @@ module _ {rate : Rate} {w m : Word} {e : Encoder} {out : List ℕ} (r : Ran rate
       ap (λ (l : List ℕ). get_or l (length (sent rate w) + k) 0) r.written ∙ get_or-append-add (sent rate w) out k 0 in
       omega (arith, marks_to_small rate (w ++ m) (length (w ++ m)) (length (sent rate w) + k))
 
+-- the marks that a slice shows are those of the run
+pub ran_shown : {rate : Rate} {w m : Word} {e : Encoder} {out shown : List ℕ} → shown ≡ out → Ran rate w m e out → Ran rate w m e shown
+ran_shown {rate} {w} {m} {e} same r = subst (Ran rate w m e) (sym same) r
+
 -- the encoder before the first byte
 pub after_none : {rate : Rate} {e : Encoder} (body : List ℕ) → After rate [] e → After e.rate (front body 0) e
 unfolding all_bits
@@ -53,13 +59,20 @@ module _ {rate : Rate} {e : Encoder} {out : List ℕ} (body : List ℕ) (k : ℕ
   pub byte_length : k < length body → Ran rate (front body k) (bits (get_or body k 0)) e out → length (sent rate (front body k)) + length out ≡ length (sent rate (front body (k + 1)))
   byte_length h r = omega (arith, length-append (sent rate (front body k)) out, ap length (sent_more h r))
 
-  pub byte_room : (size : ℕ) → k < length body → marks_before rate (8 * length body + 6) ≤ size → Ran rate (front body k) (bits (get_or body k 0)) e out → length (sent rate (front body k)) + length out ≤ size
+  pub byte_room : {own : Rate} (size : ℕ) → rate ≡ own → k < length body → marks_before own (8 * length body + 6) ≤ size → Ran rate (front body k) (bits (get_or body k 0)) e out → length (sent rate (front body k)) + length out ≤ size
   unfolding bits
-  byte_room size h room r = run_room r (8 * length body + 6) size (omega (arith, length_front body k (omega arith))) room
+  byte_room size same h room r =
+      run_room r (8 * length body + 6) size (omega (arith, length_front body k (omega arith))) (subst (λ p. marks_before p (8 * length body + 6) ≤ size) (sym same) room)
 
   -- the tail after the last byte
-  pub tail_room : (size : ℕ) → k ≤ length body → marks_before rate (8 * length body + 6) ≤ size → Ran rate (front body k) (zeros 6) e out → length (sent rate (front body k)) + length out ≤ size
-  tail_room size h room r = run_room r (8 * length body + 6) size (omega (arith, length_front body k h)) room
+  pub tail_room : {own : Rate} (size : ℕ) → rate ≡ own → k ≤ length body → marks_before own (8 * length body + 6) ≤ size → Ran rate (front body k) (zeros 6) e out → length (sent rate (front body k)) + length out ≤ size
+  tail_room size same h room r =
+      run_room r (8 * length body + 6) size (omega (arith, length_front body k h)) (subst (λ p. marks_before p (8 * length body + 6) ≤ size) (sym same) room)
 
-  pub sent_last : length body ≤ k → Ran rate (front body k) (zeros 6) e out → sent rate (front body k) ++ out ≡ marks rate (all_bits body)
-  sent_last h r = sent_tail rate (front body k) (sent rate (front body k)) out refl r.written ∙ ap (marks rate) (front_all body k h)
+  pub sent_last : {own : Rate} → rate ≡ own → length body ≤ k → Ran rate (front body k) (zeros 6) e out → sent rate (front body k) ++ out ≡ marks own (all_bits body)
+  sent_last same h r =
+      sent_tail rate (front body k) (sent rate (front body k)) out refl r.written ∙ ap (marks rate) (front_all body k h) ∙ ap (λ p. marks p (all_bits body)) same
+
+-- no more marks cost more than 0 than there are
+pub dear_room : (price : ℕ → ℕ → ℕ) (sent shown : List ℕ) (i total n size : ℕ) → total ≡ dear price 0 sent → n ≡ dear price i shown → length sent + length shown ≤ size → total + n ≤ size
+dear_room price sent shown i total n size e f h = omega (arith, dear_le price 0 sent, dear_le price i shown)

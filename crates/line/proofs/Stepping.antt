@@ -115,11 +115,13 @@ module _ (rate : Rate) (price : ℕ → ℕ → ℕ) (t i : ℕ) (at : i ≡ mar
       os (suc (suc zero)) l = slot_third 1 o2 (f2 ∙ ap (λ n. cond c (price n 1) 0) third)
       os (suc (suc (suc g))) l = absurd (omega arith)
 
-  pub step_room : (s : ℕ) → marks_before rate (t + 1) ≤ s → i + bit a + bit b + bit c ≤ s
-  step_room s h = omega (arith, step_count rate t, ap bit p, ap bit q, ap bit r)
+-- where the readings of a step end, by which of its marks are kept
+module _ (rate : Rate) (t : ℕ) (ks : List Bool) {i : ℕ} (at : i ≡ marks_before rate t) (kept : (g : ℕ) → g < 3 → get_or ks g false ≡ has rate t g) where
+  pub step_end : (j k l : ℕ) → j ≡ i + bit (get_or ks 0 false) → k ≡ j + bit (get_or ks 1 false) → l ≡ k + bit (get_or ks 2 false) → l ≡ marks_before rate (t + 1)
+  step_end j k l ej ek el = omega (arith, step_count rate t, ap bit (kept 0 (omega arith)), ap bit (kept 1 (omega arith)), ap bit (kept 2 (omega arith)))
 
-  pub step_end : (j k l : ℕ) → j ≡ i + bit a → k ≡ j + bit b → l ≡ k + bit c → l ≡ marks_before rate (t + 1)
-  step_end j k l ej ek el = omega (arith, step_count rate t, ap bit p, ap bit q, ap bit r)
+  pub step_room : (s : ℕ) → marks_before rate (t + 1) ≤ s → i + bit (get_or ks 0 false) + bit (get_or ks 1 false) + bit (get_or ks 2 false) ≤ s
+  step_room s h = omega (arith, step_end _ _ _ refl refl refl)
 
 pub step_small : (z0 z1 z2 o0 o1 o2 : ℕ) → (z0 ≤ 128) × (o0 ≤ 128) → (z1 ≤ 128) × (o1 ≤ 128) → (z2 ≤ 128) × (o2 ≤ 128) → Small (three z0 o0 z1 o1 z2 o2)
 step_small z0 z1 z2 o0 o1 o2 p q r = record { zeros = zs; ones = os }

@@ -32,9 +32,7 @@ impl<R: Reading> Line<R> {
     pub fn new(rate: Rate, a: usize, b: usize, length: usize) -> Option<Line<R>>
         ensures { MatchOption result ((1 ≤ length) × (1 ≤ a) × (1 ≤ b) × (a * b ≤ 98304) × (marks_before rate (8 * length + 6) ≤ a * b) → ⊥) (λ c. (c.rate ≡ rate) × (c.helical.grid.rows ≡ a) × (c.helical.grid.columns ≡ b) × (c.length ≡ length)) }
     {
-        let Some(helical) = Helical::new(a, b) else {
-            return None;
-        };
+        let helical = Helical::new(a, b)?;
         if length < 1 || length > 98304 || rate.mark_count(8 * length + 6) > helical.len() {
             return None;
         }

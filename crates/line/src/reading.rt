@@ -102,7 +102,7 @@ impl<'a, R: Reading> Received<'a, R> {
         requires same { generators.now.rate ≡ self.now.rate }
         requires long { length decisions.old ≡ length costs.old }
         requires inside { marks_before self.now.rate (from + length costs.old) ≤ block_size self.now.rule }
-        ensures { Went self.now.rate (rule_prices R.Reading.cost self.now.rule self.now.readings.now) from (length costs.old) (metrics.old.low ++ metrics.old.high) (metrics.new.low ++ metrics.new.high) decisions.new }
+        ensures { Went self.now.rate (rule_prices R.Reading.cost self.now.rule self.now.readings.now) from (length costs.old) metrics.old metrics.new decisions.new }
     {
         self.fill_costs(from, costs);
         metrics.run(generators, costs, decisions);

@@ -1,11 +1,11 @@
 -- The costs before the first step.
-use Rattle.std.proofs.Common.{arith}
+use Rattle.std.proofs.Common.{refl, arith}
 use Rattle.convolution.proofs.Refine.{tracks_start}
 use Rattle.convolution.proofs.Spread.{near_start}
 use Rattle.convolution.proofs.viterbi.Metrics.start.Goals as goal
 
 pub invariant_of-result : goal.invariant_of-result
-invariant_of-result c = record { near = near_start; small = omega arith }
+invariant_of-result c = record { long = refl; near = near_start; small = omega arith }
 
 pub returns : goal.returns
 returns c = tracks_start

@@ -6,7 +6,7 @@ use Rattle.line.proofs.line.Line.new.Goals.{then-length-lt1-via-then-length-lt1,
 
 pub returns-then-length-lt1 : goal.returns-then-length-lt1
 returns-then-length-lt1 g c (low, tall, wide, small, room) =
-    let same = c.in-Some.ensures in
+    let same = c.in_ok-helical.ensures in
     let many = steps_marks c.args.rate (8 * c.args.length + 6) in
     elim c.then-length-lt1.branch [
       | then-length-lt1-via-then-length-lt1 w ↦ omega (arith, w.if-length-lt1.true)

@@ -3,16 +3,8 @@ use Rattle.limits.specs.Limits.{on_bare}
 use Rattle.plan.specs.Stacks.{bare_plan}
 use Rattle.limits.proofs.Within.{sound}
 use Rattle.plan.proofs.Giving.{given_bare}
-use Rattle.book.proofs.Fitting.{hands_up, entry_read, air_bare, steps_bare}
+use Rattle.book.proofs.Fitting.{entry_read, air_bare, steps_bare}
 use Rattle.book.proofs.run.read_bytes.Goals as goal
-
-pub hand_up-requires : goal.hand_up-requires
-hand_up-requires c =
-    let p = c.args.plan.now in
-    let up = hands_up (on_bare p.numbers) p.numbers ((bare_plan p.numbers p.unit).got c.args.block.now) c.args.first.now c.args.second.now c.args.steps.now c.args.block.now c.get_bytes-given.result
-    c.get_bytes-given.new.first c.get_bytes-given.new.second c.get_bytes-given.new.steps c.args.part.now c.requires.bare.0 c.requires.room.1 c.requires.room.0 (omega (arith, steps_bare p.numbers c.requires.bare.0)) c.requires.bare.1 c.requires.part c.get_bytes-given.ensures
-    (sound p.numbers p.within) c.get_bytes-given.auto.first in
-    record { late = up.0; room = up.1 }
 
 pub returns : goal.returns
 returns c =

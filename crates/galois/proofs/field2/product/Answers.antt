@@ -1,15 +1,9 @@
 -- `product` adds the multiples of a, one for each bit of b.
-use Rattle.std.proofs.Common.{◌≡◌, ◌+◌, ◌-◌, ◌*◌, ◌/◌, ◌%◌, ◌^◌, sym, ap, ◌∙◌, div-one, arith}
+use Rattle.std.proofs.Common.{◌≡◌, ◌+◌, ◌-◌, ◌*◌, ◌/◌, ◌%◌, ◌^◌, sym, ap, ◌∙◌, arith}
 use lib.Bits.{bit_xor, xor_zero_r}
 use Rattle.galois.specs.Polynomials.{product_of}
-use Rattle.galois.specs.Shifts.{scaled_small, product_more}
+use Rattle.galois.specs.Shifts.{product_more}
 use Rattle.galois.proofs.field2.product.Goals as goal
-
-pub loop-i-init : goal.loop-i-init
-loop-i-init c = (omega arith, ap (product_of 8 0x87 c.args.a) (div-one c.args.b))
-
-pub overflow_mul-sum : goal.overflow_mul-sum
-overflow_mul-sum c = omega (arith, scaled_small c.loop-i.x (c.args.b / 2 ^ c.loop-i.i % 2) c.loop-i.invariant.0 (omega arith))
 
 pub loop-i-preserved : goal.loop-i-preserved
 loop-i-preserved c =

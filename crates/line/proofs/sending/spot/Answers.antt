@@ -1,16 +1,8 @@
 -- The row and the column of a mark, and its place.
 use Rattle.std.proofs.Common.{◌≡◌, ◌+◌, ◌*◌, ◌/◌, ◌%◌, ◌<◌, sym, ap, ◌∙◌, subst, div-add-mod'}
-use Rattle.std.proofs.lemmas.Nat.{div_below, mod_below}
 use Rattle.readings.specs.Helix.{wound}
 use Rattle.readings.specs.Winding.{helix_rearranges}
 use Rattle.line.proofs.sending.spot.Goals as goal
-
-pub place-requires : goal.place-requires
-place-requires c =
-    let r = c.args.rule in
-    let i = c.args.i in
-    let same = sym c.columns-columns.ensures in
-    (subst (λ n. i / n < r.grid.rows) same (div_below i r.grid.columns r.grid.rows r.grid.wide c.requires), subst (λ n. i % n < r.grid.columns) same (mod_below i r.grid.columns r.grid.wide))
 
 pub returns : goal.returns
 returns c =

@@ -1,12 +1,9 @@
 -- One polynomial more comes forward, cleared.
-use Rattle.std.proofs.Common.{ℕ, ◌+◌, ◌≤◌, ◌≢◌, List, [], refl, ap, ◌∙◌, subst, arith, length-set, get_or-set_other}
+use Rattle.std.proofs.Common.{ℕ, ◌+◌, ◌≤◌, ◌≢◌, List, [], ap, ◌∙◌, subst, arith, length-set, get_or-set_other}
 use Rattle.outer.specs.declared.lanes.Row.{Row}
 use Rattle.outer.specs.Cutting.{polynomial, Sum, factor}
 use Rattle.outer.proofs.Cuts.{set_more}
 use Rattle.outer.proofs.locator.clear.Goals as goal
-
-pub loop-c-init : goal.loop-c-init
-loop-c-init g c = (refl, λ k h. refl, λ k h. refl, λ s j scales are k h m. absurd (omega arith))
 
 pub loop-c-preserved : goal.loop-c-preserved
 loop-c-preserved g c =
@@ -28,9 +25,3 @@ loop-c-preserved g c =
           (c.cleared-lanes.ensures s j p are (c.lane_multiples-multiples.ensures f rule scales) (c.inverse-inverse.ensures ∙ ap f.inv (c.applied_to.ensures f s j rule are))))
           (c.loop-c.invariant.3 s j scales are),
     )
-
-pub returns : goal.returns
-returns g c s j scales are = record {
-  ahead = c.loop-c.invariant.1;
-  behind = λ k h m. c.loop-c.invariant.3 s j scales are k (omega arith) h;
-}

@@ -1,6 +1,5 @@
 -- One mark more is counted.
 use Rattle.std.proofs.Common.{◌≡◌, ℕ, ◌+◌, ◌<◌, ltb, get_or, refl, ap, ◌∙◌, arith}
-use Rattle.std.proofs.lemmas.List.{take_all}
 use Rattle.line.specs.Line.{dear, prices}
 use Rattle.line.specs.Costing.{dear_more, bool_le}
 use Rattle.line.proofs.reading.Received.count_marks.Given as given
@@ -30,7 +29,3 @@ loop-k-preserved g c = (
   omega (arith, c.loop-k.invariant.0, bool_le (ltb 0 c.if-mark-eq0.cost)),
   dear_more (prices g.R.Reading.cost c.args.self.now.rule.grid.rows c.args.self.now.rule.grid.columns c.args.self.now.readings.now) c.args.i c.args.marks.now c.loop-k.k c.loop-k.count c.if-mark-eq0.cost c.loop-k-test.true (price_is g c) c.loop-k.invariant.1,
 )
-
-pub returns : goal.returns
-returns g c =
-    c.loop-k.invariant.1 ∙ ap (dear (prices g.R.Reading.cost c.args.self.now.rule.grid.rows c.args.self.now.rule.grid.columns c.args.self.now.readings.now) c.args.i) (take_all c.loop-k.k c.args.marks.now (omega arith))

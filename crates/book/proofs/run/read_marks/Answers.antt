@@ -3,16 +3,8 @@ use Rattle.limits.specs.Limits.{on_bare}
 use Rattle.plan.specs.Stacks.{line_plan}
 use Rattle.limits.proofs.Within.{sound}
 use Rattle.plan.proofs.Giving.{given_line}
-use Rattle.book.proofs.Fitting.{hands_up, entry_read, air_line}
+use Rattle.book.proofs.Fitting.{entry_read, air_line}
 use Rattle.book.proofs.run.read_marks.Goals as goal
-
-pub hand_up-requires : goal.hand_up-requires
-hand_up-requires g c =
-    let p = c.args.plan.now in
-    let up = hands_up (not (on_bare p.numbers)) p.numbers ((line_plan g.R.Reading.cost g.R.Reading.clean p.numbers p.unit).got c.args.readings.now) c.args.first.now c.args.second.now c.args.steps.now c.args.readings.now c.get_marks-given.result
-    c.get_marks-given.new.first c.get_marks-given.new.second c.get_marks-given.new.steps c.args.part.now (ap not c.requires.line.0) c.requires.room.1.0 c.requires.room.0 c.requires.room.1.1 c.requires.line.1 c.requires.part c.get_marks-given.ensures
-    (sound p.numbers p.within) c.get_marks-given.auto.first in
-    record { late = up.0; room = up.1 }
 
 pub returns : goal.returns
 returns g c =

@@ -1,24 +1,12 @@
-use Rattle.std.proofs.Common.{ℕ, length, Err, sym, refl, ap, ◌∙◌, arith, rules}
-use Rattle.std.proofs.lemmas.Result.{err_from_is_err_and}
+use Rattle.std.proofs.Common.{ℕ, length, sym, refl, ap, ◌∙◌, arith, rules}
 use Rattle.stack.specs.Buffers.{padded}
-use Rattle.book.specs.declared.fault.BookFault.{BookFault}
 use Rattle.book.specs.declared.job.Needs.{Needs}
 use Rattle.book.specs.Running.{results_before}
 use Rattle.book.specs.Contents.{count}
-use Rattle.book.proofs.Lending.{lent_parts, wrong_file, wrong_lent, right_book, book_refused, book_run, enough_kept}
+use Rattle.book.proofs.Lending.{lent_parts, wrong_lent, right_book, book_refused, book_run, enough_kept}
 use Rattle.book.proofs.Recording.{front_recorded}
 use Rattle.book.proofs.Refusals.{only_two}
 use Rattle.book.proofs.run.run_book.Goals as goal
-
-pub returns-in_err-count : goal.returns-in_err-count
-returns-in_err-count c =
-    let p = err_from_is_err_and c.from_residual.result c.from_residual.ensures.1 in
-    record {
-      ran =
-          book_refused c.args.file.now c.args.records.now c.args.results.now c.args.first.now c.args.second.now c.args.steps.now c.args.hard.now c.args.soft.now c.in_err-count.field-0.0 c.from_residual.result (p.1 ∙ ap (λ (w : BookFault). Err w) p.2)
-          (wrong_file c.args.file.now _ _ _ _ _ _ _ _ c.in_err-count.ensures.judged);
-      late = only_two c.args.file.now;
-    }
 
 pub returns-then-not-met : goal.returns-then-not-met
 returns-then-not-met c =

@@ -14,7 +14,7 @@ use std::io::Read;
 use std::process::ExitCode;
 
 // A book of this size is too long, so no more is read.
-const ENOUGH: u64 = 60_001;
+const ENOUGH: usize = 60_001;
 
 // The bytes of the result buffer.
 const RESULTS: usize = 65_536;
@@ -28,8 +28,9 @@ const READINGS: usize = 98_304;
 
 // The book on standard input, at most one byte more than a book may have.
 fn read_input(rt: &HostRuntime) -> anyhow::Result<Vec<u8>> {
-    let mut bytes = Vec::new(rt.alloc());
-    rt.stdin().take(ENOUGH).read_to_end(&mut bytes)?;
+    // With room for one byte more, reading to the end asks for no other memory.
+    let mut bytes = Vec::with_capacity(rt.alloc(), ENOUGH + 1)?;
+    rt.stdin().take(ENOUGH as u64).read_to_end(&mut bytes)?;
     Ok(bytes)
 }
 

@@ -44,7 +44,7 @@ back_step : (ds : List ℕ) (n m s d : ℕ) → n ≡ suc m → d ≡ bit_of (ge
 unfolding back
 back_step ds n m s d e f = rw (e, f)
 
-left_more : (ds : List ℕ) (a s k b q : ℕ) → k < 8 → Left ds a s k b q →
+pub left_more : (ds : List ℕ) (a s k b q : ℕ) → k < 8 → Left ds a s k b q →
     let d : ℕ = bit_and (get_or ds (a + 7 - k) 0 / 2 ^ q) 1 in
     Left ds a s (k + 1) (bit_or b ((d * 2 ^ k) % 2 ^ 64)) ((2 * q + d) % 64)
 unfolding lows

@@ -38,7 +38,13 @@ Meet (suc k) s p = (d : Bool) → Meet k (before s d) (before p d)
 abbrev pub Near : List ℕ → Type 0
 Near ms = (k s p : ℕ) → (s < 64) × (p < 64) × Meet k s p → slice_index ms s ≤ slice_index ms p + (far + k * 384)
 
--- what the costs of the 64 states keep, in two vectors
+-- what the costs of the 64 states keep: none is far from another, and the first leaves room
+pub record Close (ms : List ℕ) : Type 0 where
+  pub all : length ms ≡ 64
+  pub near : Near ms
+  pub first : slice_index ms 0 < 2 ^ 14
+
+-- and in two vectors
 pub record Costs (low high : List ℕ) : Type 0 where
   pub long : length low ≡ 32
   pub near : Near (low ++ high)

@@ -43,23 +43,12 @@ impl Model for Marks {
 }
 
 impl Marks {
-    // No marks.
-    pub(crate) fn new() -> Marks
-        ensures { result ≡ [] }
+    // The first `count` marks of a buffer.
+    pub(crate) fn of(buffer: [u8; 24], count: usize) -> Marks
+        requires { count ≤ 24 }
+        ensures { result ≡ take count buffer }
     {
-        Marks {
-            buffer: [0; 24],
-            count: 0,
-        }
-    }
-
-    // Adds the lowest bit of `marks` if that of `kept` is 1.
-    pub(crate) fn push(&mut self, marks: u16, kept: u16)
-        requires { length self.old < 24 }
-        ensures { self.new ≡ self.old ++ take (kept % 2) (marks % 2 ∷ []) }
-    {
-        self.buffer[self.count] = (marks % 2) as u8;
-        self.count += (kept % 2) as usize;
+        Marks { buffer, count }
     }
 
     // The marks one after another.

@@ -1,9 +1,8 @@
 // The marks of several steps at once.
-ghost use Rattle.std.specs.Prelude.{◌≡◌, ℕ, ◌+◌, ◌/◌, ◌%◌, ◌^◌, ◌<◌, ◌≤◌, ◌++◌, length, map, slice_index};
+ghost use Rattle.std.specs.Prelude.{◌≡◌, ℕ, ◌+◌, ◌/◌, ◌%◌, ◌^◌, ◌<◌, ◌≤◌, ◌++◌, map, take, slice_index};
 ghost use Rattle.convolution.specs.Code.{mark};
 ghost use Rattle.convolution.specs.Encoding.{KeptBits, MarkBits, kept_bit, picked};
 
-use crate::marks::Marks;
 use crate::rate::Rate;
 
 // The marks of one generator, those of the window from place i on in bit i.
@@ -77,13 +76,16 @@ pub fn rows(rate: Rate, bits: u16, phase: u8) -> [Row; 3]
     }
 }
 
-// Adds the kept marks of step i.
-pub fn put_step(rows: [Row; 3], i: usize, marks: &mut Marks)
-    requires { (i < 8) × (length marks.old + 3 ≤ 24) }
-    ensures written { marks.new ≡ marks.old ++ picked (map (λ r. r.marks) rows) (map (λ r. r.kept) rows) i }
-    ensures count { length marks.new ≤ length marks.old + 3 }
+// Writes the kept marks of step i behind the first `count`, and answers how many there are then.
+pub fn put_step(rows: [Row; 3], i: usize, marks: &mut [u8; 24], count: usize) -> usize
+    requires { (i < 8) × (count + 3 ≤ 24) }
+    ensures written { take result marks.new ≡ take count marks.old ++ picked (map (λ r. r.marks) rows) (map (λ r. r.kept) rows) i }
+    ensures count { result ≤ count + 3 }
 {
+    let mut end = count;
     for row in rows {
-        marks.push(row.marks >> i, row.kept >> i);
+        marks[end] = ((row.marks >> i) % 2) as u8;
+        end += ((row.kept >> i) % 2) as usize;
     }
+    end
 }

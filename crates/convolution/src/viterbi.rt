@@ -1,11 +1,11 @@
 // The decoder of least cost.
 ghost use Rattle.std.specs.Prelude.{◌≡◌, ℕ, ◌+◌, ◌-◌, ◌*◌, ◌^◌, ◌<◌, ◌≤◌, List, ◌++◌, reverse, take, drop, length, slice_index, slice_index_or};
-ghost use Rattle.convolution.specs.Lanes.{Costs, Masks, low_back, high_back, Selected, Turns};
+ghost use Rattle.convolution.specs.Lanes.{Close, Costs, Masks, low_back, high_back, Selected, Turns};
 ghost use Rattle.convolution.specs.Slots.{Small, free, all_costs, generator_at, window_cost, Ran, Decoded};
 ghost use Rattle.convolution.specs.Code.{bits};
 ghost use Rattle.convolution.specs.Trellis.{Tracks, back};
 
-use crate::costs::StepCosts;
+pub use crate::costs::StepCosts;
 use crate::lanes;
 use crate::marks::mark;
 use crate::rate::Rate;
@@ -117,7 +117,8 @@ fn advance(metrics: Metrics, generators: &Generators, c: StepCosts) -> (Metrics,
 impl Metrics {
     // Before the first step: state 0 costs nothing, every other more than six steps can.
     pub fn start() -> Metrics
-        ensures { (cost : ℕ → ℕ → ℕ) → Tracks cost 0 result }
+        ensures tracks { (cost : ℕ → ℕ → ℕ) → Tracks cost 0 result }
+        ensures close { Close result }
     {
         let mut low = [FAR; 32];
         low[0] = 0;
@@ -131,7 +132,8 @@ impl Metrics {
     pub fn run(&mut self, generators: &Generators, costs: &[StepCosts], decisions: &mut [u64])
         requires long { length decisions.old ≡ length costs.now }
         requires small { (k : ℕ) → k < length costs.now → Small (slice_index_or costs.now k free) }
-        ensures { Ran generators.now.rate costs.now (length costs.now) self.old self.new decisions.new }
+        ensures ran { Ran generators.now.rate costs.now (length costs.now) self.old self.new decisions.new }
+        ensures close { Close self.new }
     {
         let mut metrics = *self;
         for (t, c) in costs.iter().enumerate() {
@@ -139,6 +141,7 @@ impl Metrics {
             metrics = next;
             decisions[t] = d;
         }
+        let _ = &metrics.low;
         *self = metrics;
     }
 }

@@ -7,7 +7,7 @@ use Rattle.std.proofs.lemmas.List.{append-nil}
 use Rattle.galois.specs.Bytes.{ByteField, FieldRule, power, raised}
 use Rattle.galois.specs.Raising.{power_add, power_small, power_remainder}
 use Rattle.outer.specs.ByteLists.{Bytes}
-use Rattle.outer.specs.Lanes.{lane}
+use Rattle.outer.specs.Lanes.{lane, root}
 use Rattle.outer.specs.Decoding.{locator, polynomial_at, is_located, locator_zeros}
 use Rattle.outer.proofs.Equations.{mul_zero as times_zero}
 use Rattle.outer.proofs.Kept.{all_always, kept_same}
@@ -45,6 +45,13 @@ module _ (f : ByteField) (rule : FieldRule f) where
   pub power_none : (m : ℕ) → 1 ≡ power f (m * 0)
   unfolding power raised
   power_none m = sym (ap (power f) (mul-zero m))
+
+  -- the next root is the one before it times 02
+  pub root_more : (r l x : ℕ) → x ≡ root f r l → f.mul x 2 ≡ root f r (l + 1)
+  unfolding power raised
+  root_more r l x e =
+      let one_on : suc (r + l) ≡ r + (l + 1) = omega arith in
+      ap (λ y. f.mul y 2) e ∙ rule.mul_comm (power f (r + l)) 2 (power_small f rule (r + l)) (omega arith) ∙ ap (power f) one_on
 
   -- one power of 02 less: each term times the power 254 as often as its degree says
   pub term_halved : (cs : List ℕ) (m l : ℕ) → lane cs l < 256 → f.mul (power f (254 * l)) (term cs (m + 1) l) ≡ term cs m l

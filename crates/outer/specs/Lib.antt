@@ -3,6 +3,7 @@ pub mod ByteLists
 pub mod Exhaustion
 pub mod Words
 pub mod Nearest
+pub mod PlaceLists
 pub mod Decoding
 pub mod Verdict
 pub mod Lanes

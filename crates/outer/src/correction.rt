@@ -33,9 +33,9 @@ struct Located {
 
 // For each place the multiples of its locator in a word of n bytes.
 fn locate<F: Field>(field: &F, places: &Places, n: usize) -> ArrayVec<Located, 16>
-    requires { Inside n places.now.items }
-    ensures places { map (λ e. e.place) result.items ≡ places.now.items }
-    ensures multiples { LocatorMultiples (F.Field.meaning field.now) n places.now.items (map (λ e. e.locator) result.items) }
+    requires { Inside n places.now }
+    ensures places { map (λ e. e.place) result.items ≡ places.now }
+    ensures multiples { LocatorMultiples (F.Field.meaning field.now) n places.now (map (λ e. e.locator) result.items) }
 {
     let mut located = ArrayVec::new();
     for place in places.as_slice() {
@@ -88,9 +88,9 @@ pub fn correct<F: Field>(
     word: &mut [u8],
 ) -> u32
     requires known { (length word.old ≤ 255) × (r ≤ 254) }
-    requires inside { Inside (length word.old) places.now.items }
-    ensures word { word.new ≡ corrected (error_value (F.Field.meaning field.now) r (length word.old) places.now.items syndromes.now) word.old places.now.items }
-    ensures count { result ≡ errors (error_value (F.Field.meaning field.now) r (length word.old) places.now.items syndromes.now) places.now.items }
+    requires inside { Inside (length word.old) places.now }
+    ensures word { word.new ≡ corrected (error_value (F.Field.meaning field.now) r (length word.old) places.now syndromes.now) word.old places.now }
+    ensures count { result ≡ errors (error_value (F.Field.meaning field.now) r (length word.old) places.now syndromes.now) places.now }
 {
     let n = word.len();
     let errors = Errors {

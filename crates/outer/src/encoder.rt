@@ -3,6 +3,7 @@ ghost use Rattle.std.specs.Prelude.{◌≡◌, ℕ, ◌+◌, ◌^◌, ◌<◌, �
 ghost use Rattle.outer.specs.Lanes.{lane, Are};
 ghost use Rattle.outer.specs.Encoder.{coefficient, Advanced, Checks};
 
+pub use super::lanes::NEXT;
 use super::lanes::{Multiples, moved, multiples_of};
 use galois::field::Field;
 use std::simd::prelude::*;

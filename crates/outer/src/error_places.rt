@@ -1,16 +1,64 @@
 // The places of a word at whose locators a polynomial is zero.
-ghost use Rattle.std.specs.Prelude.{◌≡◌, ℕ, ◌*◌, ◌<◌, ◌≤◌, length};
+ghost use Rattle.std.specs.Prelude.{◌≡◌, ℕ, ◌+◌, ◌*◌, ◌<◌, ◌≤◌, List, [], ◌∷◌, ◌++◌, length, take, drop};
 ghost use Rattle.galois.specs.Bytes.{power};
 ghost use Rattle.outer.specs.Lanes.{lane};
 ghost use Rattle.outer.specs.Decoding.{locator_zeros};
+ghost use Rattle.outer.specs.PlaceLists.{Stored, count_back, array_back, stored};
 
 use super::locator::{lane_multiples, scales};
-use arrayvec::ArrayVec;
 use galois::field::Field;
+use std::marker::Model;
 use std::simd::prelude::*;
 
-// Places of a word, at most 16, ascending.
-pub type Places = ArrayVec<u8, 16>;
+// Places of a word, at most 16, ascending: the first so many of an array, with zeros behind them.
+#[derive(Clone, Copy, Debug, PartialEq, Eq)]
+pub struct Places {
+    at: [u8; 16],
+    count: usize,
+}
+
+impl Model for Places {
+    ghost Value = { List ℕ };
+
+    ghost view = { λ p. take p.count p.at };
+
+    ghost invariant = { λ p. Stored p.at p.count };
+
+    ghost inverse = { λ zs. record { at = stored zs; count = length zs } };
+
+    ghost inverse_ok = { λ p h i. record { at = array_back h i; count = count_back h i } };
+}
+
+impl Places {
+    // No place.
+    pub fn new() -> Places
+        ensures { result ≡ [] }
+    {
+        Places {
+            at: [0; 16],
+            count: 0,
+        }
+    }
+
+    // One place more; a full list stays as it is.
+    pub fn push(&mut self, place: u8)
+        ensures more { length self.old < 16 → self.new ≡ self.old ++ place ∷ [] }
+        ensures full { length self.old ≡ 16 → self.new ≡ self.old }
+    {
+        if self.count < 16 {
+            self.at[self.count] = place;
+            self.count += 1;
+        }
+    }
+
+    // The places one after another.
+    pub fn as_slice(&self) -> &[u8]
+        ensures value { result.now ≡ self.now }
+        ensures few { length result.now ≤ 16 }
+    {
+        &self.at[..self.count]
+    }
+}
 
 // The powers 0, m, 2 m, .. , 31 m of 02.
 fn powers<F: Field>(field: &F, m: usize) -> [u8; 32]
@@ -29,7 +77,7 @@ fn powers<F: Field>(field: &F, m: usize) -> [u8; 32]
 // The places of a word of n bytes at whose locators a polynomial is zero, if they are at most 16.
 pub fn locator_zeros<F: Field>(field: &F, polynomial: &[u8; 32], n: usize) -> Places
     requires { (1 ≤ n) × (n ≤ 255) }
-    ensures { length (locator_zeros (F.Field.meaning field.now) n polynomial.now) ≤ 16 → result.items ≡ locator_zeros (F.Field.meaning field.now) n polynomial.now }
+    ensures { length (locator_zeros (F.Field.meaning field.now) n polynomial.now) ≤ 16 → result ≡ locator_zeros (F.Field.meaning field.now) n polynomial.now }
 {
     let scales = scales(field);
     // The next place has half the locator, and half is the power 254 of 02.
@@ -39,8 +87,7 @@ pub fn locator_zeros<F: Field>(field: &F, polynomial: &[u8; 32], n: usize) -> Pl
     let mut places = Places::new();
     for p in 0..n {
         if terms.reduce_xor() == 0 {
-            // A full list stays as it is.
-            let _room = places.try_push(p as u8);
+            places.push(p as u8);
         }
         terms = onward.times(terms);
     }

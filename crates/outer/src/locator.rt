@@ -3,7 +3,8 @@ ghost use Rattle.std.specs.Prelude.{◌<◌, ◌≤◌, length, MatchOption};
 ghost use Rattle.outer.specs.Lanes.{Are};
 ghost use Rattle.outer.specs.Cutting.{always, Scales, Scaled, MovedOn, Applies, Power, Powers, Fails, Clears, ClearsAll, Cuts, Annihilator};
 
-use super::lanes::{Multiples, Row, moved};
+pub use super::lanes::moved;
+use super::lanes::{Multiples, Row};
 use arrayvec::ArrayVec;
 use galois::field::Field;
 use std::array;

@@ -6,15 +6,20 @@ ghost use Rattle.outer.specs.Syndromes.{Syndromes};
 
 use super::lanes::{Multiples, multiples_of};
 use galois::field::Field;
-use std::array;
 use std::simd::prelude::*;
 
-// The powers r, r + 1, .. , r + 31 of 02.
+// The powers r, r + 1, .. , r + 31 of 02: each is the one before it times 02.
 fn roots<F: Field>(field: &F, r: usize) -> [u8; 32]
     requires { r + 32 ≤ 2 ^ 64 }
     ensures { (l : ℕ) → l < 32 → lane result l ≡ root (F.Field.meaning field.now) r l }
 {
-    array::from_fn(|l| field.power(r + l))
+    let mut roots = [0; 32];
+    let mut next = field.power(r);
+    for root in &mut roots {
+        *root = next;
+        next = field.mul(next, 2);
+    }
+    roots
 }
 
 // The multiples of the powers r, r + 1, .. , r + 31 of 02.

@@ -66,7 +66,7 @@ module _ (p : PlanNumbers) (unit : ℕ) (s : Sound p) where
   block_rule = interleaving_rule p.words (word_length p) s.code.words_low (omega (arith, s.code.length_low)) (omega (arith, coded_high p s))
 
   module _ {R : Type 0} (c : CarrierMeaning R) (meets : c.body ≡ coded_length p) where
-    code_stand : Stand (code_part p) c
+    pub code_stand : Stand (code_part p) c
     unfolding Stand top_body
     code_stand = (code_rule, refl, (block_rule, sym meets, tt))
 

@@ -28,7 +28,7 @@ pub long_part : (n w : ℕ) (xs : List ℕ) → (w + 1) * n ≤ length xs → le
 long_part n w xs room = omega (arith, add-mul w 1 n, mid_len (w * n) ((w + 1) * n) xs room)
 
 -- a word written behind those before it
-take-written : (n w : ℕ) (xs v : List ℕ) → (w + 1) * n ≤ length xs → length v ≡ n → take ((w + 1) * n) (put_mid (w * n) ((w + 1) * n - w * n) xs v) ≡ take (w * n) xs ++ v
+pub take-written : (n w : ℕ) (xs v : List ℕ) → (w + 1) * n ≤ length xs → length v ≡ n → take ((w + 1) * n) (put_mid (w * n) ((w + 1) * n - w * n) xs v) ≡ take (w * n) xs ++ v
 take-written n w xs v room long = take-put_mid (w * n) ((w + 1) * n - w * n) xs v ((w + 1) * n) (omega (arith, add-mul w 1 n)) (omega (arith, add-mul w 1 n))
 
 -- a chunk of the words from w on, and what is left behind it

@@ -7,6 +7,27 @@ ghost use Rattle.stack.specs.Calls.{Sent, Got, Put, Get, judged};
 use crate::corrections::Corrections;
 use crate::fault::{CarrierFault, Misfit, Refusal};
 
+// Judges what was lent: first the buffers, then the list of symbols or readings.
+pub fn judge(
+    need: usize,
+    first: usize,
+    second: usize,
+    step_need: usize,
+    steps: usize,
+    air: usize,
+    list: usize,
+) -> Result<(), Misfit>
+    ensures { result ≡ judged need first second step_need steps air list }
+{
+    if first != second || first < need || steps < step_need {
+        return Err(Misfit::Buffers);
+    }
+    if list != air {
+        return Err(Misfit::AirLength);
+    }
+    Ok(())
+}
+
 // How long what is lent must be: each byte buffer and the step buffer at least, the list of symbols or readings exactly.
 #[derive(Clone, Copy)]
 struct Needs {
@@ -20,13 +41,7 @@ impl Needs {
     fn judge(self, first: usize, second: usize, steps: usize, list: usize) -> Result<(), Misfit>
         ensures { result ≡ judged self.bytes first second self.steps steps self.air list }
     {
-        if first != second || first < self.bytes || steps < self.steps {
-            return Err(Misfit::Buffers);
-        }
-        if list != self.air {
-            return Err(Misfit::AirLength);
-        }
-        Ok(())
+        judge(self.bytes, first, second, self.steps, steps, self.air, list)
     }
 }
 

@@ -29,13 +29,14 @@ impl Encoder {
     {
         let line = self.state as u16 + 64 * bits as u16;
         let rows = rows(self.rate, line, self.phase);
-        let mut marks = Marks::new();
+        let mut marks = [0; 24];
+        let mut count = 0;
         for i in 0..steps {
-            put_step(rows, i, &mut marks);
+            count = put_step(rows, i, &mut marks, count);
         }
         self.state = ((line >> steps) % 64) as u8;
         self.phase = ((self.phase as usize + steps) % 6) as u8;
-        marks
+        Marks::of(marks, count)
     }
 
     // One step: the next bit goes in, and the answer is the kept marks of the step.

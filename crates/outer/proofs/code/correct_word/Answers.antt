@@ -20,7 +20,7 @@ correct-count-requires g c =
     record {
       known = (c.requires.sizes.short, c.requires.sizes.low);
       inside = places_inside f rule c.args.r c.args.e c.args.word.now c.requires.sizes c.syndromes-found.ensures.small.0 c.syndromes-found.result
-          c.annihilator-polynomial.result c.locator_zeros-places.result.items c.syndromes-found.ensures.small.1
+          c.annihilator-polynomial.result c.locator_zeros-places.result c.syndromes-found.ensures.small.1
           (c.syndromes-found.ensures.lanes f c.args.r rule c.requires.roots) c.annihilator-polynomial.ensures c.locator_zeros-places.ensures;
     }
 
@@ -30,7 +30,7 @@ returns-then-all_zero-2 g c =
     let f = g.F.Field.meaning field in
     let rule = g.met.F.Field.rule field in
     repaired_found f rule c.args.r c.args.e c.args.word.now c.requires.sizes c.syndromes-found.ensures.small.0 c.syndromes-found.result
-    c.annihilator-polynomial.result c.locator_zeros-places.result.items c.syndromes-found.ensures.small.1
+    c.annihilator-polynomial.result c.locator_zeros-places.result c.syndromes-found.ensures.small.1
     (c.syndromes-found.ensures.lanes f c.args.r rule c.requires.roots) c.annihilator-polynomial.ensures c.locator_zeros-places.ensures
     c.correct-count.new.word c.correct-count.ensures.word c.correct-count.result c.correct-count.ensures.count
     (λ j h. sym (c.syndromes.ensures.lanes f c.args.r rule c.requires.roots j (omega arith)) ∙ all_taken (2 * c.args.e) c.syndromes.result (omega arith) (c.all_zero-2.ensures.0 c.if-all_zero-2.true) j h)
@@ -41,7 +41,7 @@ returns-else-all_zero-2 g c =
     let f = g.F.Field.meaning field in
     let rule = g.met.F.Field.rule field in
     nearest_lost f rule c.args.r c.args.e c.args.word.now c.requires.sizes c.syndromes-found.ensures.small.0 c.syndromes-found.result
-    c.annihilator-polynomial.result c.locator_zeros-places.result.items c.syndromes-found.ensures.small.1
+    c.annihilator-polynomial.result c.locator_zeros-places.result c.syndromes-found.ensures.small.1
     (c.syndromes-found.ensures.lanes f c.args.r rule c.requires.roots) c.annihilator-polynomial.ensures c.locator_zeros-places.ensures
     c.correct-count.new.word c.correct-count.ensures.word
     (λ code.

@@ -12,7 +12,7 @@ loop-place-init g c = (refl, refl, omega arith)
 pub loop-place-preserved : goal.loop-place-preserved
 loop-place-preserved g c =
     let w = c.args.word.now in
-    let zs = c.args.places.now.items in
+    let zs = c.args.places.now in
     let same = c.as_slice-place-items.ensures.value in
     let v = error_value (g.F.Field.meaning c.args.field.now) c.args.r (length w) zs c.args.syndromes.now in
     let i = c.loop-place.place-index in

@@ -5,6 +5,6 @@ use Rattle.outer.proofs.correction.correct.Given as goal
 
 abbrev pub invariant-loop-place : goal.invariant-loop-place
 invariant-loop-place g s =
-    let v = error_value (g.F.Field.meaning s.field) s.r s.n s.places.items s.syndromes in
-    let so_far = take s.place-index s.places.items in
+    let v = error_value (g.F.Field.meaning s.field) s.r s.n s.places s.syndromes in
+    let so_far = take s.place-index s.places in
     (s.word ≡ corrected v s.initial.word so_far) × (s.count ≡ errors v so_far) × (s.count ≤ s.place-index)

@@ -17,10 +17,10 @@ loop-place-init g c = (ap (map (λ (e : Located). e.place)) c.new-located.ensure
 pub push-requires : goal.push-requires
 push-requires g c =
     let es = c.loop-place.located.items in
-    let zs = c.args.places.now.items in
+    let zs = c.args.places.now in
     let same = c.as_slice-place-items.ensures.value in
     let few = length-take-le c.loop-place.place-index zs (omega (arith, ap length same, c.loop-place-test.true)) in
-    let room : length es < 16 = omega (arith, ap length c.loop-place.invariant.0, few, length-map es (λ (e : Located). e.place), c.loop-place-test.true, c.as_slice-place-items.ensures.fits) in
+    let room : length es < 16 = omega (arith, ap length c.loop-place.invariant.0, few, length-map es (λ (e : Located). e.place), c.loop-place-test.true, c.as_slice-place-items.ensures.few) in
     search rules
 
 pub loop-place-preserved : goal.loop-place-preserved
@@ -29,7 +29,7 @@ loop-place-preserved g c =
     let f = g.F.Field.meaning c.args.field.now in
     let n = c.args.n in
     let es = c.loop-place.located.items in
-    let zs = c.args.places.now.items in
+    let zs = c.args.places.now in
     let i = c.loop-place.place-index in
     let m = c.scalar_multiples.result in
     let none : Multiples = record { rows = [] } in
@@ -48,7 +48,7 @@ loop-place-preserved g c =
     )
 
 pub returns-clause-places : goal.returns-clause-places
-returns-clause-places g c = c.loop-place.invariant.0 ∙ take_all c.loop-place.place-index c.args.places.now.items (omega (arith, ap length c.as_slice-place-items.ensures.value, c.loop-place-test.false))
+returns-clause-places g c = c.loop-place.invariant.0 ∙ take_all c.loop-place.place-index c.args.places.now (omega (arith, ap length c.as_slice-place-items.ensures.value, c.loop-place-test.false))
 
 pub returns-clause-multiples : goal.returns-clause-multiples
 returns-clause-multiples g c k h = c.loop-place.invariant.1 k (omega (arith, ap length c.as_slice-place-items.ensures.value, c.loop-place-test.false))

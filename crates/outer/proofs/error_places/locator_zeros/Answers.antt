@@ -1,5 +1,5 @@
 -- A sum of terms that is 0 is one place more, and each term goes on to the next place.
-use Rattle.std.proofs.Common.{◌≡◌, ◌+◌, ◌-◌, ◌*◌, length, filter, sym, ap, ◌∙◌, arith, rules}
+use Rattle.std.proofs.Common.{◌≡◌, ◌+◌, ◌-◌, ◌*◌, length, filter, sym, ap, ◌∙◌, arith}
 use native.Mathlib.Nat.{sub-zero}
 use Rattle.std.specs.List.{range_with_len}
 use Rattle.std.proofs.lemmas.Bool.{eq-eqb, ne_eqb}
@@ -37,8 +37,8 @@ loop-p-preserved g c =
     let sum = terms_sum f rule (n - 1 - p) cs c.loop-p.terms c.fits-polynomial (c.loop-p.auto.terms.0 ∙ sym c.told-polynomial)
     (λ l h. c.loop-p.invariant.1 c.loop-p-test.true l (omega arith)) in (
       elim c.if-terms-eq0.branch [
-        | then-terms-eq0 w ↦ λ few. ap (λ l. l.items) w.places-is ∙ listed_push t p c.loop-p.places.items w.try_push-room.new.self.items c.loop-p.invariant.0 (eq-eqb _ _ (sym sum ∙ w.if-terms-eq0.true)) (λ low. let room = w.try_push-room.ensures.variant.1 low in search rules) few
-        | else-terms-eq0 w ↦ λ few. ap (λ l. l.items) w.places-is ∙ listed_stay t p c.loop-p.places.items c.loop-p.invariant.0 (ne_eqb _ _ (λ e. w.if-terms-eq0.false (sum ∙ e))) few
+        | then-terms-eq0 w ↦ λ few. w.places-is ∙ listed_push t p c.loop-p.places w.push.new.self c.loop-p.invariant.0 (eq-eqb _ _ (sym sum ∙ w.if-terms-eq0.true)) w.push.ensures.more few
+        | else-terms-eq0 w ↦ λ few. w.places-is ∙ listed_stay t p c.loop-p.places c.loop-p.invariant.0 (ne_eqb _ _ (λ e. w.if-terms-eq0.false (sum ∙ e))) few
       ],
       λ h l k.
           let one_less : n - 1 - p ≡ n - 1 - (p + 1) + 1 = omega arith in

@@ -10,5 +10,5 @@ abbrev pub invariant-loop-p : goal.invariant-loop-p
 invariant-loop-p g s =
     let f = g.F.Field.meaning s.field in
     let zs = filter (is_located f s.n s.polynomial) (range_with_len 0 s.p) in
-    (length zs ≤ 16 → s.places.items ≡ zs)
+    (length zs ≤ 16 → s.places ≡ zs)
     × (s.p < s.n → (l : ℕ) → l < 32 → lane s.terms l ≡ term f (g.met.F.Field.rule s.field) s.polynomial (s.n - 1 - s.p) l)

@@ -7,5 +7,8 @@ use Rattle.convolution.proofs.viterbi.Metrics.start.Goals as goal
 pub invariant_of-result : goal.invariant_of-result
 invariant_of-result c = record { long = refl; near = near_start; small = omega arith }
 
-pub returns : goal.returns
-returns c = tracks_start
+pub returns-clause-tracks : goal.returns-clause-tracks
+returns-clause-tracks c = tracks_start
+
+pub returns-clause-close : goal.returns-clause-close
+returns-clause-close c = record { all = refl; near = near_start; first = omega arith }
